@@ -1,0 +1,10 @@
+pub mod Counts
+pub mod Fit
+pub mod Stack
+pub mod Ends
+pub mod Growth
+pub mod Standing
+pub mod Laid
+pub mod Sides
+pub mod Judged
+pub mod Written

@@ -1,0 +1,5 @@
+use Rattle.plfd.proofs.Exactness.{reading-is-exact}
+use Rattle.plfd.proofs.exact.reading_is_exact.Needs as need
+
+pub returns : need.returns
+returns c = record { law = reading-is-exact }

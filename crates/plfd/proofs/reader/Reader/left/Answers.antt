@@ -1,0 +1,6 @@
+use native.Mathlib.Omega.{arith}
+use Rattle.plfd.proofs.Ahead.{left-ahead}
+use Rattle.plfd.proofs.reader.Reader.left.Needs as need
+
+pub returns : need.returns
+returns c = record { value = omega (arith, left-ahead (c .args .self .now)) }
