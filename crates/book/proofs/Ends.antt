@@ -1,7 +1,7 @@
 -- The rules of a table, one behind the other.
 use mathlib.Core.Path.{_≡_, refl, sym, ap, _∙_}
-use mathlib.Core.List.{List, [], _∷_, _++_, reverse, reverse-cons}
-use mathlib.Core.Logic.{inl, inr, ⊎-elim}
+use mathlib.Core.List.{List, [], _∷_, reverse, reverse-cons}
+use mathlib.Core.Logic.{⊎-elim}
 use Prim.Native.Nat.{ℕ, zero, suc, _+_, _-_, _<_, _≤_}
 use native.Mathlib.Omega.{arith}
 use lib.ListN.{length, getD, take}
@@ -10,7 +10,7 @@ use Rattle.std.proofs.shelf.Tests.{cases-eq}
 use Rattle.plfd.specs.Formula.{Formula, nodes}
 use Rattle.plfd.specs.Code.{top}
 use Rattle.book.specs.declared.tables.Placed.{Placed}
-use Rattle.book.specs.Places.{stack, placed, formula-at, start, Rises, Covers}
+use Rattle.book.specs.Places.{stack, formula-at, start, Rises, Covers}
 use Rattle.book.specs.Growing.{Shaped}
 use Rattle.book.proofs.Stack.{stack-cons, stack-top}
 

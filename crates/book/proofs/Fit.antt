@@ -1,6 +1,6 @@
 -- What fits the settings fits them still when one more is declared.
 use mathlib.Core.Path.{_≡_, refl, sym, ap, subst, _∙_}
-use mathlib.Core.Bool.{Bool, true}
+use mathlib.Core.Bool.{true}
 use mathlib.Core.List.{List, [], _∷_, _++_}
 use Prim.Native.Nat.{ℕ, _+_, _<_}
 use native.Mathlib.Omega.{arith}
@@ -11,7 +11,7 @@ use Rattle.plfd.specs.declared.settings.Setting.{Setting}
 use Rattle.plfd.specs.declared.nodes.Atom.{Atom}
 use Rattle.plfd.specs.declared.nodes.Node.{Node}
 use Rattle.plfd.specs.declared.nodes.Node.the-variants.{Constant, Atomic, Not, Join}
-use Rattle.plfd.specs.Settings.{setting, undeclared}
+use Rattle.plfd.specs.Settings.{undeclared}
 use Rattle.plfd.specs.Formula.{named, choosable, atom-fits}
 use Rattle.plfd.specs.Code.{node-fits}
 

@@ -1,20 +1,21 @@
 -- Node upon node is written behind those that stand, as the reading of a code goes on.
 use mathlib.Core.Path.{_≡_, refl, sym, ap, subst, _∙_}
-use mathlib.Core.Bool.{Bool, true, false}
+use mathlib.Core.Bool.{true}
 use mathlib.Core.List.{List, [], _∷_, _++_}
-use mathlib.Core.Logic.{inl, inr, ⊎-elim}
-use Prim.Native.Nat.{ℕ, zero, suc, _+_, _-_, _<_, _≤_}
+use mathlib.Core.Logic.{⊎-elim}
+use Prim.Native.Nat.{ℕ, _+_, _-_, _<_, _≤_}
 use native.Mathlib.Omega.{arith}
-use lib.Dec.{eqb, leb, ltb}
 use lib.ListN.{length, getD, set, take, drop}
 use Rattle.std.proofs.shelf.Lists.{length-set, getD-set-same, take-set-le, take-take, getD-take, drop-drop, length-drop, length-append}
-use Rattle.std.proofs.shelf.Tests.{cases-eq, eq-eqb, ne-eqb, cond-false, cond-true, le-ltb, lt-ltb, lt-leb}
+use Rattle.std.proofs.shelf.Tests.{cases-eq, ne-eqb, cond-false, le-ltb, lt-leb}
 use Rattle.std.specs.declared.result.Result.{Result}
 use Rattle.std.specs.declared.result.Result.the-variants.{Ok, Err}
 use Rattle.plfd.specs.declared.settings.Setting.{Setting}
 use Rattle.plfd.specs.declared.faults.CodeRefusal.{CodeRefusal}
+use Rattle.plfd.specs.declared.nodes.Connective.{Connective}
 use Rattle.plfd.specs.declared.nodes.Node.{Node}
-use Rattle.plfd.specs.Answers.{Answer, given, refused, Reason, unless}
+use Rattle.plfd.specs.declared.nodes.Node.the-variants.{Not, Join}
+use Rattle.plfd.specs.Answers.{Answer, given, refused, unless}
 use Rattle.plfd.specs.Faults.{fault, told-code}
 use Rattle.plfd.specs.Formula.{Formula, nodes}
 use Rattle.plfd.specs.Code.{arity, width, top, below, raise, node-fits}
@@ -88,14 +89,14 @@ module _ (ps : List Placed) (end : ℕ) (s : Shaped ps end) (room : end < 1024) 
 
 -- the spans of the formulas that the next node takes
 module _ (ps : List Placed) (end : ℕ) (s : Shaped ps end) where
-  pub right-span : 1 ≤ length (stack ps end) → (placed ps (end - 1) .span ≡ nodes (top (stack ps end))) × (nodes (top (stack ps end)) ≤ end)
+  right-span : 1 ≤ length (stack ps end) → (placed ps (end - 1) .span ≡ nodes (top (stack ps end))) × (nodes (top (stack ps end)) ≤ end)
   right-span h =
       let some : 0 < end = some-places ps end h in
       let back : end - 1 + 1 ≡ end = omega arith in
       let t = stack-top ps end (omega (arith, s .few, s .room)) (s .supplied) end some (omega arith) in
       (s .spans (end - 1) (omega arith) ∙ ap (λ q. nodes (top (stack ps q))) back, t .within)
 
-  pub left-span : 2 ≤ length (stack ps end) →
+  left-span : 2 ≤ length (stack ps end) →
       (placed ps (end - 1) .span ≤ end - 1)
       × (placed ps (end - 1 - placed ps (end - 1) .span) .span ≡ nodes (top (below (stack ps end))))
       × (nodes (top (below (stack ps end))) + nodes (top (stack ps end)) ≤ end)
@@ -110,6 +111,29 @@ module _ (ps : List Placed) (end : ℕ) (s : Shaped ps end) where
       let place : end - 1 - placed ps (end - 1) .span + 1 ≡ end - g = omega (arith, r .0) in
       let same : nodes (top (stack ps (end - g))) ≡ nodes (top (below (stack ps end))) = ap (λ q. nodes (top q)) (t .rest) in
       (omega (arith, r .0), s .spans _ (omega (arith, r .0)) ∙ ap (λ q. nodes (top (stack ps q))) place ∙ same, omega (arith, u .within, same))
+
+-- the node that comes next, and the nodes of the formula that it makes
+module _ (ps : List Placed) (end : ℕ) (s : Shaped ps end) (n : Node) (enough : arity n ≤ length (stack ps end)) where
+  abbrev made-nodes : ℕ
+  made-nodes = nodes (top (raise (stack ps end) n))
+
+  pub not-span : n ≡ Not → (placed ps (end - 1) .span + 1 ≡ made-nodes) × (made-nodes ≤ end + 1)
+  not-span is =
+      let one = subst (λ m. arity m ≤ length (stack ps end)) is enough in
+      let made = ap (λ m. nodes (top (raise (stack ps end) m))) is in
+      let right = right-span ps end s one in
+      (omega (arith, made, right), omega (arith, made, right))
+
+  pub join-span : (c : Connective) → n ≡ Join c →
+      (placed ps (end - 1) .span ≤ end - 1)
+      × (placed ps (end - 1 - placed ps (end - 1) .span) .span + placed ps (end - 1) .span + 1 ≡ made-nodes)
+      × (made-nodes ≤ end + 1)
+  join-span c is =
+      let two = subst (λ m. arity m ≤ length (stack ps end)) is enough in
+      let made = ap (λ m. nodes (top (raise (stack ps end) m))) is in
+      let right = right-span ps end s (omega (arith, two)) in
+      let left = left-span ps end s two in
+      (left .0, omega (arith, made, right, left), omega (arith, made, right, left))
 
 module _ (S : List Setting) (ps : List Placed) (c : ℕ) (ps′ : List Placed) {x : Answer Formula} {r : Result ℕ CodeRefusal} where
   tried-refused : (e : CodeRefusal) → x ≡ refused (fault (e .fault) (e .offset)) → r ≡ Err e → Tried x S ps c ps′ r

@@ -1,10 +1,9 @@
 -- The loops of a judgement, setting by setting and rule by rule.
 use mathlib.Core.Path.{_≡_, ap, _∙_}
 use mathlib.Core.Bool.{true, cond, _&&_}
-use mathlib.Core.List.{List}
 use Prim.Native.Nat.{ℕ, _+_, _-_, _<_, _≤_}
 use native.Mathlib.Omega.{arith}
-use lib.ListN.{length, getD, drop}
+use lib.ListN.{getD, drop}
 use Rattle.std.proofs.shelf.Lists.{at-drop-more, at-drop-all, getD-take}
 use Rattle.plfd.specs.Settings.{domain, undeclared}
 use Rattle.plfd.specs.Formula.{Assignment, truth, constant}

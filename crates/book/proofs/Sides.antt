@@ -1,7 +1,6 @@
 -- What the node at a place of a book makes of the formulas before it.
 use mathlib.Core.Path.{_≡_, sym, ap, subst, _∙_}
 use mathlib.Core.Bool.{true}
-use mathlib.Core.List.{List}
 use Prim.Native.Nat.{ℕ, _+_, _-_, _<_, _≤_}
 use native.Mathlib.Omega.{arith}
 use lib.ListN.{length}
@@ -10,7 +9,7 @@ use Rattle.plfd.specs.declared.nodes.Atom.{Atom}
 use Rattle.plfd.specs.declared.nodes.Connective.{Connective}
 use Rattle.plfd.specs.declared.nodes.Node.{Node}
 use Rattle.plfd.specs.declared.nodes.Node.the-variants.{Constant, Atomic, Not, Join}
-use Rattle.plfd.specs.Formula.{Formula, constant, atom, negation, join, nodes, named}
+use Rattle.plfd.specs.Formula.{constant, atom, negation, join, nodes, named}
 use Rattle.plfd.specs.Code.{arity, top, below, raise, node-fits}
 use Rattle.book.specs.declared.book.Book.{Book}
 use Rattle.book.specs.Places.{stack, placed, formula-at}

@@ -2,7 +2,7 @@
 use mathlib.Core.Path.{_≡_, refl, sym, ap, _∙_}
 use mathlib.Core.Bool.{true}
 use mathlib.Core.List.{List, [], _∷_, _++_, append-assoc}
-use mathlib.Core.Logic.{inl, inr, ⊎-elim}
+use mathlib.Core.Logic.{⊎-elim}
 use Prim.Native.Nat.{ℕ, zero, suc, _+_, _-_, _*_, _<_, _≤_}
 use native.Mathlib.Omega.{arith}
 use lib.ListN.{length, getD, take, drop}
@@ -18,8 +18,9 @@ use Rattle.plfd.specs.Formula.{constant}
 use Rattle.plfd.proofs.Spelling.{command-length}
 use Rattle.promises.specs.Writing.{code-of, write-checks, WriteOutGives}
 use Rattle.book.specs.declared.book.Book.{Book}
+use Rattle.book.specs.declared.tables.Nodes.{Nodes}
 use Rattle.book.specs.declared.tables.Placed.{Placed}
-use Rattle.book.specs.Places.{stack, placed, formula-at, code-between, start, Supplied}
+use Rattle.book.specs.Places.{stack, placed, code-between, start, Supplied}
 use Rattle.book.proofs.Stack.{codes-more}
 use Rattle.book.specs.View.{rules-of, page-of}
 use Rattle.book.proofs.Ends.{rule-stack, rule-at}
@@ -32,7 +33,16 @@ width-bound (Atomic (Range x lo hi)) = omega arith
 width-bound Not = omega arith
 width-bound (Join k) = omega arith
 
-module _ (ps : List Placed) (c : ℕ) (room : c ≤ length ps) (supplied : Supplied ps c) where
+module _ (n : Nodes) (supplied : Supplied (n .placed) (n .count)) where
+  abbrev ps : List Placed
+  ps = n .placed
+
+  abbrev c : ℕ
+  c = n .count
+
+  room : c ≤ length ps
+  room = omega arith
+
   length-more : (k : ℕ) → k < c → length (codes (stack ps (k + 1))) ≡ length (codes (stack ps k)) + width (placed ps k .node)
   length-more k h =
       ap length (codes-more ps c room supplied k h) ∙ length-append (codes (stack ps k)) (command (placed ps k .node))
@@ -87,24 +97,45 @@ written-on before more buffer room =
     ∙ ap (λ n. drop n buffer) (sym (length-append before more)) in
     (λ i. take-at before rest (length before) refl i ++ (more ++ behind i)) ∙ sym (append-assoc before more (drop (length (before ++ more)) buffer))
 
--- one command more is written behind those from `from` up to k
-module _ (ps : List Placed) (c : ℕ) (within : c ≤ length ps) (supplied : Supplied ps c) (from k end : ℕ) (h : from ≤ k) (l : k < end) (m : end ≤ c) (bytes buffer : List ℕ) (is : bytes ≡ command (placed ps k .node)) (room : length (code-between ps from end) ≤ length buffer) where
-  more-is : code-between ps from k ++ bytes ≡ code-between ps from (k + 1)
-  more-is = ap (λ x. code-between ps from k ++ x) is ∙ sym (between-more ps c within supplied from k h (omega arith))
+-- the commands from `from` up to k are written to a buffer that was `first`, and the next ones go to the place `at`
+pub record WrittenTo (ps : List Placed) (from : ℕ) (first : List ℕ) (k at : ℕ) (buffer : List ℕ) : Type 0 where
+  pub order : from ≤ k
+  pub reached : at ≡ length (code-between ps from k)
+  pub bytes : buffer ≡ code-between ps from k ++ drop (length (code-between ps from k)) first
 
-  pub length-is : length (code-between ps from k) + length bytes ≡ length (code-between ps from (k + 1))
-  length-is = sym (length-append (code-between ps from k) bytes) ∙ ap length more-is
+pub written-none : (n : Nodes) → Supplied (n .placed) (n .count) → (from : ℕ) (first : List ℕ) → WrittenTo (n .placed) from first from 0 first
+written-none n supplied from first =
+    let none = between-none n supplied from in
+    record { order = omega arith; reached = sym (ap length none); bytes = sym (ap (λ l. l ++ drop (length l) first) none) }
 
-  pub room-behind : length (code-between ps from k) + length bytes ≤ length buffer
-  room-behind = omega (arith, length-is, between-longer ps c within supplied from (k + 1) end (omega arith) m)
+module _ (n : Nodes) (supplied : Supplied (n .placed) (n .count)) (from end : ℕ) (within : end ≤ n .count) (first : List ℕ) (room : length (code-between (n .placed) from end) ≤ length first)
+    {k at : ℕ} {buffer : List ℕ} (so-far : WrittenTo (n .placed) from first k at buffer) (l : k < end) (command-bytes : List ℕ) (is : command-bytes ≡ command (placed (n .placed) k .node)) where
+  abbrev before : List ℕ
+  before = code-between (n .placed) from k
 
-  pub written-more : (at : ℕ) (now-written after : List ℕ) → at ≡ length (code-between ps from k) → now-written ≡ code-between ps from k ++ drop (length (code-between ps from k)) buffer →
-      after ≡ take at now-written ++ (bytes ++ drop (at + length bytes) now-written) → after ≡ code-between ps from (k + 1) ++ drop (length (code-between ps from (k + 1))) buffer
-  written-more at now-written after at-is now-is after-is =
-      after-is
-      ∙ (λ i. take (at-is i) (now-is i) ++ (bytes ++ drop (at-is i + length bytes) (now-is i)))
-      ∙ written-on (code-between ps from k) bytes buffer room-behind
-      ∙ ap (λ x. x ++ drop (length x) buffer) more-is
+  more-is : before ++ command-bytes ≡ code-between (n .placed) from (k + 1)
+  more-is = ap (λ x. before ++ x) is ∙ sym (between-more n supplied from k (so-far .order) (omega arith))
+
+  length-is : length before + length command-bytes ≡ length (code-between (n .placed) from (k + 1))
+  length-is = sym (length-append before command-bytes) ∙ ap length more-is
+
+  fits : length before + length command-bytes ≤ length first
+  fits = omega (arith, length-is, between-longer n supplied from (k + 1) end (omega arith) within)
+
+  pub room-behind : length buffer ≡ length first → at + length command-bytes ≤ length buffer
+  room-behind same = omega (arith, so-far .reached, fits, same)
+
+  -- one command more
+  pub written-more : (buffer′ : List ℕ) (at′ : ℕ) → at′ ≡ at + length command-bytes → buffer′ ≡ take at buffer ++ (command-bytes ++ drop (at + length command-bytes) buffer) → WrittenTo (n .placed) from first (k + 1) at′ buffer′
+  written-more buffer′ at′ at-is buffer-is = record {
+    order = omega (arith, so-far .order);
+    reached = omega (arith, at-is, so-far .reached, length-is);
+    bytes =
+        buffer-is
+        ∙ (λ i. take (so-far .reached i) (so-far .bytes i) ++ (command-bytes ++ drop (so-far .reached i + length command-bytes) (so-far .bytes i)))
+        ∙ written-on before command-bytes first fits
+        ∙ ap (λ x. x ++ drop (length x) first) more-is;
+  }
 
 -- what writing out rule k gives, by the commands between its first node and its end
 module _ (b : Book) (k : ℕ) (buffer : List ℕ) where

@@ -1,5 +1,5 @@
 -- The bytes ahead of a reader, by their place in all of its bytes.
-use mathlib.Core.Path.{_≡_, sym}
+use mathlib.Core.Path.{_≡_}
 use Prim.Native.Nat.{ℕ, _+_, _-_}
 use lib.ListN.{length, getD}
 use Rattle.std.proofs.shelf.Lists.{length-drop, getD-drop}

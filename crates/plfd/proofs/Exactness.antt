@@ -1,22 +1,21 @@
 -- The law of reading: the code of a formula that fits is read as it, and whatever is read as a formula is its code.
 use mathlib.Core.Path.{_≡_, refl, sym, ap, subst, _∙_}
-use mathlib.Core.Bool.{Bool, true, false, cond, _&&_}
+use mathlib.Core.Bool.{true}
 use mathlib.Core.List.{List, [], _∷_, _++_, append-nil, append-assoc}
-use mathlib.Core.Logic.{_↔_, inl, inr, ⊎-elim}
 use Prim.Native.Nat.{ℕ, zero, suc, _+_, _-_, _<_, _≤_}
 use native.Mathlib.Omega.{arith}
 use lib.Dec.{leb, ltb}
-use lib.ListN.{length, getD, drop}
+use lib.ListN.{length, drop}
 use Rattle.std.proofs.shelf.Lists.{length-append, length-drop, getD-drop, drop-at}
-use Rattle.std.proofs.shelf.Tests.{ne-eqb, cond-false, cond-true, le-ltb, lt-ltb, le-leb, lt-leb, and-parts, cases-lt}
+use Rattle.std.proofs.shelf.Tests.{ne-eqb, cond-false, cond-true, le-ltb, lt-ltb, lt-leb, and-parts}
 use Rattle.plfd.specs.declared.settings.Setting.{Setting}
 use Rattle.plfd.specs.declared.nodes.Node.{Node}
 use Rattle.plfd.specs.declared.nodes.Node.the-variants.{Constant, Atomic, Not, Join}
-use Rattle.plfd.specs.Answers.{Answer, given, refused, Reason, unless}
+use Rattle.plfd.specs.Answers.{Answer, given, refused, unless}
 use Rattle.plfd.specs.Formula.{Formula, constant, atom, negation, join, nodes, total, well-formed}
 use Rattle.plfd.specs.Code.{command, code, codes, top, width, arity, raise, node-fits}
 use Rattle.plfd.specs.Reading.{node-limit, commanded, stack-checks, end-checks, reading, read}
-use Rattle.plfd.specs.Exact.{Bytes, Says, Reading-is-exact}
+use Rattle.plfd.specs.Exact.{Bytes, Reading-is-exact}
 use Rattle.plfd.proofs.Spelling.{IsCommand, is-command, command-length, commands}
 use Rattle.plfd.proofs.Steps.{next-command, refused-command}
 use Rattle.plfd.proofs.Checks.{given≢refused, passed-stack}

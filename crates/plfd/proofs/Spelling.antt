@@ -1,6 +1,6 @@
 -- A command that is read is spelled by its bytes and fits the settings; and the bytes of a node that fits are read as it.
 use mathlib.Core.Path.{_≡_, refl, sym, ap, subst, _∙_}
-use mathlib.Core.Bool.{Bool, true, false, not, cond, _&&_}
+use mathlib.Core.Bool.{true, false, not}
 use mathlib.Core.List.{List, [], _∷_, _++_}
 use Prim.Native.Nat.{ℕ, zero, suc, _+_, _*_, _/_, _%_, _<_, _≤_}
 use native.Mathlib.Omega.{arith}
@@ -10,19 +10,19 @@ use Rattle.std.proofs.shelf.Tests.{cond-false, cond-both, le-ltb, lt-ltb, lt-le
 use Rattle.std.specs.declared.option.Option.{Option}
 use Rattle.std.specs.declared.option.Option.the-variants.{None, Some}
 use Rattle.plfd.specs.declared.settings.Setting.{Setting}
-use Rattle.plfd.specs.declared.nodes.Atom.{Atom}
 use Rattle.plfd.specs.declared.nodes.Atom.the-variants.{Is, Range}
 use Rattle.plfd.specs.declared.nodes.Connective.the-variants.{And, Or, Implies, Iff}
 use Rattle.plfd.specs.declared.nodes.Node.{Node}
 use Rattle.plfd.specs.declared.nodes.Node.the-variants.{Constant, Atomic, Not, Join}
-use Rattle.plfd.specs.declared.faults.CodeFault.the-variants.{CutShort, UnknownCommand, UndeclaredSetting, NoSuchChoice}
+use Rattle.plfd.specs.declared.faults.CodeFault.the-variants.{CutShort, UnknownCommand}
 use Rattle.plfd.specs.Answers.{Answer, given, refused, and-then, unless, _⇒_}
 use Rattle.plfd.specs.Settings.{setting}
-use Rattle.plfd.specs.Formula.{named, choosable, atom-fits}
+use Rattle.plfd.specs.Formula.{named, choosable}
 use Rattle.plfd.specs.Code.{command, operands, width, node-fits}
 use Rattle.plfd.specs.Faults.{fault}
 use Rattle.plfd.specs.Reading.{pair, node-of, decoded, setting-checks, commanded, names-undeclared, names-no-choice}
 use Rattle.plfd.specs.Exact.{Bytes}
+use Rattle.plfd.proofs.Checks.{given≢refused}
 
 -- ---- what is read
 
@@ -117,7 +117,7 @@ checked-of S at bs (given m) n d e =
     let same = subst (Of-given (λ k. k ≡ m)) e (same-checked S at m) in
     let d′ = subst (λ k. (width k ≤ length bs) × (Bytes bs → bs ≡ command k ++ drop (width k) bs)) (sym same) d in
     record { long = d′ .0; fits = fits; spelled = d′ .1 }
-checked-of S at bs (refused w) n d e = let z : _≡_ {A = ℕ} 0 1 = cc in absurd (omega arith)
+checked-of S at bs (refused w) n d e = absurd (given≢refused (sym e))
 
 pub is-command : (S : List Setting) (at : ℕ) (bs : List ℕ) (n : Node) → commanded S at bs ≡ given n → IsCommand S bs n
 is-command S at bs n e = checked-of S at bs (decoded at bs) n (is-decoded at bs) e

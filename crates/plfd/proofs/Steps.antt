@@ -1,13 +1,13 @@
 -- One command of a code: how its reading goes on, or why it is refused.
-use mathlib.Core.Path.{_≡_, refl, sym, ap, _∙_}
-use mathlib.Core.List.{List, [], _∷_, _++_}
+use mathlib.Core.Path.{_≡_, refl, ap, _∙_}
+use mathlib.Core.List.{List, [], _∷_}
 use Prim.Native.Nat.{ℕ, zero, suc, _+_, _<_, _≤_}
 use native.Mathlib.Omega.{arith}
 use lib.ListN.{length, drop}
 use Rattle.std.proofs.shelf.Lists.{drop-drop}
 use Rattle.plfd.specs.declared.settings.Setting.{Setting}
 use Rattle.plfd.specs.declared.nodes.Node.{Node}
-use Rattle.plfd.specs.Answers.{Answer, given, refused, Reason, and-then, unless}
+use Rattle.plfd.specs.Answers.{given, refused, Reason, and-then, unless}
 use Rattle.plfd.specs.Formula.{Formula}
 use Rattle.plfd.specs.Code.{width, operands, raise}
 use Rattle.plfd.specs.Reading.{commanded, stack-checks, reading}

@@ -1,10 +1,10 @@
 -- Formulas over settings: what they are, when they are true, where they are well formed.
 use mathlib.Core.Path.{_≡_}
-use mathlib.Core.Bool.{Bool, true, false, not, _&&_, _||_, Bool·beq}
+use mathlib.Core.Bool.{Bool, true, not, _&&_, _||_, Bool·beq}
 use mathlib.Core.List.{List, [], _∷_}
 use Prim.Native.Nat.{ℕ, _+_, _<_}
 use lib.Dec.{eqb, leb, ltb}
-use lib.ListN.{length, getD}
+use lib.ListN.{length}
 use Rattle.plfd.specs.declared.settings.Setting.{Setting}
 use Rattle.plfd.specs.declared.nodes.Atom.{Atom}
 use Rattle.plfd.specs.declared.nodes.Atom.the-variants.{Is, Range}

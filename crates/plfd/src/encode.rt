@@ -3,7 +3,7 @@ ghost use mathlib.Core.Path.{_≡_};
 ghost use mathlib.Core.List.{_∷_, []};
 ghost use Prim.Native.Nat.{_/_, _%_, _≤_};
 ghost use lib.ListN.{length, take};
-ghost use Rattle.plfd.specs.Code.{command, constant-byte, connective-byte};
+ghost use Rattle.plfd.specs.Code.{command, connective-byte};
 use crate::nodes::Atom;
 use crate::nodes::Connective;
 use crate::nodes::Node;

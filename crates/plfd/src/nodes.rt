@@ -1,7 +1,6 @@
 //! The nodes of a formula, one for each command of its code.
 ghost use mathlib.Core.Path.{_≡_};
 ghost use Prim.Native.Nat.{_<_};
-ghost use lib.ListN.{length};
 ghost use Rattle.plfd.specs.Formula.{named, covers, joined};
 ghost use Rattle.plfd.specs.Code.{operands, arity};
 

@@ -1,17 +1,18 @@
 -- A row is judged yes exactly where it fits.
-use mathlib.Core.Path.{_≡_, refl, sym, ap, subst, _∙_}
-use mathlib.Core.Bool.{Bool, true, false, cond, _&&_}
+use mathlib.Core.Path.{_≡_, refl, sym, ap, _∙_}
+use mathlib.Core.Bool.{Bool, true}
 use mathlib.Core.List.{List, [], _∷_}
-use mathlib.Core.Logic.{_↔_, inl, inr, ⊎-elim}
+use mathlib.Core.Logic.{⊎-elim}
 use Prim.Native.Nat.{ℕ, zero, suc, _+_, _<_, _≤_}
 use native.Mathlib.Omega.{arith}
 use lib.Dec.{ltb}
-use lib.ListN.{length, getD}
+use lib.ListN.{length}
 use Rattle.std.proofs.shelf.Tests.{cond-true, cond-false, and-parts, and-from, cases-bool, cases-lt, lt-ltb, le-ltb}
 use Rattle.plfd.specs.declared.settings.Setting.{Setting}
-use Rattle.plfd.specs.Answers.{Answer, given, refused, Reason, unless}
+use Rattle.plfd.specs.Answers.{Answer, given, unless}
 use Rattle.plfd.specs.Settings.{domain, setting}
-use Rattle.plfd.specs.Formula.{Formula, Assignment, truth, Keeps, Within}
+use Rattle.plfd.specs.Formula.{Formula, Assignment, truth, Keeps}
+use Rattle.plfd.proofs.Checks.{given≢refused}
 use Rattle.promises.specs.Page.{Page}
 use Rattle.promises.specs.Judging.{chosen, all-true, lowest-outside, judge-checks, Fits, JudgeGives}
 
@@ -57,11 +58,11 @@ module _ (p : Page) (row : List ℕ) where
   fits-if : judged ≡ given true → Fits p row
   fits-if e =
       ⊎-elim
-      (λ short. absurd (no-refusal (sym e ∙ cond-true (ltb (length row) (length (p .settings))) _ _ (lt-ltb _ _ short))))
+      (λ short. absurd (given≢refused (sym e ∙ cond-true (ltb (length row) (length (p .settings))) _ _ (lt-ltb _ _ short))))
       (λ long.
       let e′ = sym (cond-false (ltb (length row) (length (p .settings))) _ _ (le-ltb _ _ long)) ∙ e in
       ⊎-elim
-      (λ low. absurd (no-refusal (sym e′ ∙ cond-true (ltb outside (length (p .settings))) _ _ (lt-ltb _ _ low))))
+      (λ low. absurd (given≢refused (sym e′ ∙ cond-true (ltb outside (length (p .settings))) _ _ (lt-ltb _ _ low))))
       (λ none.
       let e″ = sym (cond-false (ltb outside (length (p .settings))) _ _ (le-ltb _ _ none)) ∙ e′ in
       let yes-all : all-true (chosen row) (p .rules) ≡ true = cc in
@@ -73,9 +74,6 @@ module _ (p : Page) (row : List ℕ) where
       })
       (cases-lt outside (length (p .settings))))
       (cases-lt (length row) (length (p .settings)))
-    where
-      no-refusal : {w : Reason} → given true ≡ refused w → ⊥
-      no-refusal h = let z : _≡_ {A = ℕ} 0 1 = cc in omega arith
 
   yes-if : Fits p row → judged ≡ given true
   yes-if f =

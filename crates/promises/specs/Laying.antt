@@ -12,6 +12,7 @@ use Rattle.plfd.specs.Exact.{Says}
 use Rattle.promises.specs.declared.refusals.Refusal.the-variants.{RulesFull}
 use Rattle.promises.specs.Refusals.{reason-of}
 use Rattle.promises.specs.Page.{Page, with-rule}
+use Rattle.promises.specs.Writing.{code-of}
 
 -- how many rules stand in a book at most
 abbrev pub rule-limit : ℕ
@@ -21,7 +22,7 @@ rule-limit = 256
 abbrev pub lay-checks : Page → List Check
 lay-checks p = leb rule-limit (length (p .rules)) ⇒ reason-of RulesFull ∷ []
 
--- the formula that the code says on this page, or why it is refused
+-- the formula that the code says on this page, or why it is refused; of an empty code, reading says so at offset 0
 abbrev pub laid : Page → List ℕ → Answer Formula
 laid p code = unless (lay-checks p) (read (p .settings) (total (p .rules)) code)
 
@@ -40,8 +41,10 @@ pub record CanStand (p : Page) (code : List ℕ) (f : Formula) : Type 0 where
   pub room : length (p .rules) < rule-limit
   pub says : Says (p .settings) (total (p .rules)) code f
 
--- what laying means: the code of a formula that can stand is accepted, and that formula stands then; nothing else is, and nothing changes
+-- what laying means: the code of a formula that can stand is accepted, and that formula stands then; nothing else is accepted.
+-- what is accepted is written out as it was laid, and what is not changes nothing
 pub record LayMeans (p : Page) (code : List ℕ) (r : Answer ℕ) (p′ : Page) : Type 0 where
   pub stands : (f : Formula) → CanStand p code f → (r ≡ given (length (p .rules))) × (p′ ≡ with-rule p f)
   pub only : accepted r ≡ true → (f : Formula) × CanStand p code f
+  pub as-laid : accepted r ≡ true → code-of p′ (length (p .rules)) ≡ code
   pub else-same : accepted r ≡ false → p′ ≡ p

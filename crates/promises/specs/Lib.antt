@@ -1,6 +1,6 @@
 pub mod Refusals
 pub mod Page
 pub mod Declaring
-pub mod Laying
 pub mod Writing
+pub mod Laying
 pub mod Judging

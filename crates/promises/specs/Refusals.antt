@@ -21,6 +21,7 @@ reason-of NoSuchRule = reason 20
 reason-of BufferTooShort = reason 21
 reason-of (NotAChoice x) = reason-at 22 x
 
+-- the number of a reason, and the value that it names, if it names one
 abbrev pub number-of : Reason → ℕ
 number-of (reason n) = n
 number-of (reason-at n v) = n

@@ -6,7 +6,7 @@ use Prim.Native.Nat.{ℕ}
 use lib.Dec.{leb, ltb}
 use lib.ListN.{length, getD, drop}
 use Rattle.plfd.specs.Answers.{Answer, given, accepted, Check, _⇒_, unless}
-use Rattle.plfd.specs.Formula.{Formula, constant}
+use Rattle.plfd.specs.Formula.{constant}
 use Rattle.plfd.specs.Code.{code}
 use Rattle.promises.specs.declared.refusals.Refusal.the-variants.{NoSuchRule, BufferTooShort}
 use Rattle.promises.specs.Refusals.{reason-of}

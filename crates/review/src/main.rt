@@ -74,7 +74,11 @@ fn run(rt: &LibcRuntime) -> Result<(), AnyError> {
 }
 
 fn main(rt: LibcRuntime) -> Result<(), AnyError> {
-    rt.report(run(&rt))
+    let played = run(&rt);
+    if let Err(error) = &played {
+        eprintln!(rt, "review: {error}")?;
+    }
+    played
 }
 
 #[cfg(test)]

@@ -26,6 +26,7 @@ use Rattle.lines.specs.Calls.{Request, declare, lay, write, judge, Meaning, bla
 use Rattle.script.specs.Saying.{said}
 use Rattle.lines.specs.Words.{words-of, spaced}
 
+-- what each call's result is answered by
 abbrev pub setting-answer : Result ℕ Refusal → Answer
 setting-answer (Ok n) = Setting n
 setting-answer (Err e) = Refused e

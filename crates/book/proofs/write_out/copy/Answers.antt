@@ -1,3 +1,4 @@
+-- A part of the buffer is written, and what lies before and behind it is as it was.
 use mathlib.Core.Path.{refl}
 use mathlib.Core.List.{_++_}
 use Prim.Native.Nat.{_+_}

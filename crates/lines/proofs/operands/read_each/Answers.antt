@@ -1,3 +1,4 @@
+-- Word by word, until one cannot be read.
 use mathlib.Core.Path.{ap}
 use Rattle.std.specs.Results.{isOk}
 use Rattle.std.proofs.Told.{chosen}

@@ -1,3 +1,4 @@
+-- What is left of the words decides the row.
 use Rattle.std.specs.Of.Vec.{vec-items}
 use Rattle.lines.proofs.Rows.{Sofar}
 use Rattle.lines.proofs.operands.read_each.Given as given

@@ -1,3 +1,4 @@
+-- A first word that is no call's name.
 use mathlib.Core.Path.{_≡_, _∙_}
 use mathlib.Core.List.{List}
 use Prim.Native.Nat.{ℕ}

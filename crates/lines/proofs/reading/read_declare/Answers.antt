@@ -1,3 +1,4 @@
+-- A declare has one operand.
 use mathlib.Core.Path.{_≡_, ap, _∙_}
 use borrow.Author.Needs.{needs}
 use lib.ListN.{length}

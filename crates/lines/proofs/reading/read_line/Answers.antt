@@ -1,3 +1,4 @@
+-- A line without words, and one with a name and operands.
 use mathlib.Core.Path.{_≡_, ap, subst, _∙_}
 use mathlib.Core.Bool.{false}
 use native.Mathlib.Omega.{arith}

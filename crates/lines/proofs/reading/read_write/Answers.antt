@@ -1,3 +1,4 @@
+-- A write has one operand or two.
 use mathlib.Core.Path.{_≡_, ap, _∙_}
 use lib.ListN.{length}
 use borrow.Author.Needs.{needs}

@@ -1,3 +1,4 @@
+-- An empty piece is no word.
 use mathlib.Core.Path.{ap, _∙_}
 use Prim.Native.Nat.{_<_}
 use lib.ListN.{length}

@@ -1,3 +1,4 @@
+-- The first word, and each other one behind a space.
 use mathlib.Core.Path.{sym, ap, _∙_}
 use mathlib.Core.List.{[], _∷_, append-assoc}
 use Rattle.std.proofs.shelf.Lists.{nil-from-length}

@@ -1,3 +1,4 @@
+-- The text so far, and what is left of the words.
 use mathlib.Core.List.{_∷_}
 use Rattle.std.specs.Of.String.{string-bytes}
 use Rattle.lines.specs.Words.{texts, spaced}

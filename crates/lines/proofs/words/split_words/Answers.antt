@@ -1,3 +1,4 @@
+-- Each turn cuts one piece off the line.
 use native.Mathlib.Omega.{arith}
 use borrow.Author.Needs.{needs}
 use Rattle.std.specs.declared.option.Option.the-variants.{None, Some}

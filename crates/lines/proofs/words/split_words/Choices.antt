@@ -1,3 +1,4 @@
+-- The words so far and those of the rest are all words; the rest gets shorter.
 use denote.Shadow.{shadow}
 use denote.Text.{Utf8}
 use lib.ListN.{length}

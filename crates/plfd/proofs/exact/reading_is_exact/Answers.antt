@@ -1,3 +1,4 @@
+-- The law of reading is proved.
 use Rattle.plfd.proofs.Exactness.{reading-is-exact}
 use Rattle.plfd.proofs.exact.reading_is_exact.Needs as need
 

@@ -1,12 +1,11 @@
-use mathlib.Core.Path.{_≡_, refl, ap, _∙_}
-use Prim.Native.Nat.{ℕ}
+-- The vector keeps what the buffer held, as far as it was written.
+use mathlib.Core.Path.{_≡_, ap, _∙_}
 use lib.ListN.{length, take, drop}
 use Rattle.std.proofs.shelf.Lists.{take-at}
 use Rattle.std.specs.declared.option.Option.the-variants.{Some}
 use Rattle.std.specs.declared.result.Result.the-variants.{Ok}
 use Rattle.script.proofs.playing.write_out.Needs as need
 
--- the vector holds what the buffer held, as far as it was written
 pub returns-in-Ok : need.returns-in-Ok
 returns-in-Ok c =
     let buffer = c .in-Continue-buffer .buffer in

@@ -1,3 +1,4 @@
+-- Each text is the one that is defined.
 use mathlib.Core.Path.{sym, ap}
 use Rattle.script.specs.Reasons.{fault-words}
 use Rattle.script.proofs.reasons.fault_reason.Needs as need

@@ -1,3 +1,4 @@
+-- Each text is the one that is defined.
 use mathlib.Core.Path.{sym, ap}
 use Rattle.script.specs.Reasons.{refusal-words}
 use Rattle.script.proofs.reasons.reason.Needs as need

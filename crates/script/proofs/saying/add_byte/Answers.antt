@@ -1,3 +1,4 @@
+-- A space and two digits are one word of a code.
 use mathlib.Core.List.{append-assoc}
 use borrow.Author.Needs.{needs}
 use Rattle.std.proofs.shelf.Text.{encode-ascii}

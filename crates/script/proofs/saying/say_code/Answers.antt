@@ -1,3 +1,4 @@
+-- Byte by byte behind the word `code`.
 use mathlib.Core.Path.{ap}
 use mathlib.Core.List.{_++_}
 use Rattle.std.specs.Joined.{joined}

@@ -1,3 +1,4 @@
+-- The text so far, and what is left of the bytes.
 use Rattle.std.specs.Of.String.{string-bytes}
 use Rattle.script.specs.Saying.{hex-word, code-said}
 use Rattle.lines.proofs.Growing.{Grown}

@@ -1,6 +1,6 @@
-use mathlib.Core.Path.{_≡_, sym, ap, _∙_}
+-- The truth at a place, from the truth where its sides end.
+use mathlib.Core.Path.{sym, ap, _∙_}
 use mathlib.Core.Bool.{not}
-use native.Mathlib.Omega.{arith}
 use Rattle.plfd.specs.Formula.{truth, joined, covers}
 use Rattle.promises.specs.Judging.{chosen}
 use Rattle.book.proofs.Sides.{at-constant, at-atom, at-not, at-join}

@@ -1,10 +1,10 @@
-use mathlib.Core.Path.{_≡_, refl, ap, subst, sym, _∙_}
+-- The order of the refusals, and the page with one setting more, which every node still fits.
+use mathlib.Core.Path.{refl, _∙_}
 use native.Mathlib.Omega.{arith}
 use Prim.Native.Nat.{_<_}
 use lib.ListN.{length, take}
 use Rattle.std.proofs.shelf.Lists.{take-more-set}
 use Rattle.std.proofs.shelf.Ways.{tells}
-use Rattle.promises.specs.Page.{Page}
 use Rattle.plfd.specs.declared.settings.Setting.{Setting}
 use Rattle.plfd.specs.Code.{node-fits}
 use Rattle.book.specs.View.{rules-of, suppositions-of}

@@ -1,9 +1,9 @@
-use mathlib.Core.Path.{_≡_, refl, sym, ap, _∙_}
+-- The book is in order after a rule was laid and after a refusal, and the page is as the relation says.
+use mathlib.Core.Path.{refl, _∙_}
 use mathlib.Core.List.{reverse}
 use Rattle.plfd.specs.Answers.{reason-at}
 use Rattle.plfd.specs.Faults.{fault}
 use Rattle.plfd.specs.Reading.{read}
-use Rattle.promises.specs.Page.{Page}
 use Rattle.book.specs.Places.{stack}
 use Rattle.book.specs.View.{settings-of, suppositions-of, page-of}
 use Rattle.book.proofs.Standing.{in-order-as, still-in-order, still-rules, grown-in-order, grown-rules}

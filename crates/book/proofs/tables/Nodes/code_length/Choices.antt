@@ -1,3 +1,4 @@
+-- The bytes counted so far are those of the commands passed.
 use mathlib.Core.Path.{_≡_}
 use Prim.Native.Nat.{_≤_}
 use lib.ListN.{length}

@@ -1,3 +1,4 @@
+-- What is read so far stands behind the count, and reading goes on as the definition does.
 use mathlib.Core.Path.{_≡_}
 use Prim.Native.Nat.{_-_}
 use lib.ListN.{length}

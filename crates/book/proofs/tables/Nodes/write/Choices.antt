@@ -1,12 +1,6 @@
-use mathlib.Core.Path.{_≡_}
-use mathlib.Core.List.{_++_}
-use Prim.Native.Nat.{_≤_}
-use lib.ListN.{length, drop}
-use Rattle.book.specs.Places.{code-between}
+-- The commands passed are written, and the rest of the buffer is as it was.
+use Rattle.book.proofs.Written.{WrittenTo}
 use Rattle.book.proofs.tables.Nodes.write.Given as given
 
 abbrev pub Inv-loop-place : given.InvT-loop-place
-Inv-loop-place l =
-    (l .from ≤ l .place)
-    × (l .at ≡ length (code-between (l .self .placed) (l .from) (l .place)))
-    × (l .buffer ≡ code-between (l .self .placed) (l .from) (l .place) ++ drop (length (code-between (l .self .placed) (l .from) (l .place))) (l .entry .buffer))
+Inv-loop-place l = WrittenTo (l .self .placed) (l .from) (l .entry .buffer) (l .place) (l .at) (l .buffer)

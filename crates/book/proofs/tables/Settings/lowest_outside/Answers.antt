@@ -1,9 +1,7 @@
+-- Setting by setting, until one has no such choice.
 use mathlib.Core.Path.{_≡_, sym, _∙_}
-use mathlib.Core.Bool.{true, false}
 use native.Mathlib.Omega.{arith}
-use lib.ListN.{getD}
 use Rattle.std.proofs.shelf.Tests.{cond-true, cond-false}
-use Rattle.plfd.specs.Settings.{domain, undeclared}
 use Rattle.promises.specs.Judging.{chosen}
 use Rattle.book.proofs.Judged.{outside-more, outside-done}
 use Rattle.book.proofs.tables.Settings.lowest_outside.Needs as need

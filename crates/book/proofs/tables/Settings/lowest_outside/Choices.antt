@@ -1,3 +1,4 @@
+-- What is left of the settings decides the answer.
 use mathlib.Core.Path.{_≡_}
 use lib.ListN.{drop}
 use Rattle.promises.specs.Judging.{chosen, lowest-outside}

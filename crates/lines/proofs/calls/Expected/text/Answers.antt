@@ -1,3 +1,4 @@
+-- Each text is the one that is defined.
 use mathlib.Core.Path.{sym, ap}
 use Rattle.lines.specs.Expected.{expected-text}
 use Rattle.lines.proofs.calls.Expected.text.Needs as need

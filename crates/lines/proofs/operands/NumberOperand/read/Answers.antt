@@ -1,3 +1,4 @@
+-- A word without a sign is read as its number.
 use mathlib.Core.Path.{_∙_}
 use mathlib.Core.Bool.{false}
 use native.Mathlib.Omega.{arith}

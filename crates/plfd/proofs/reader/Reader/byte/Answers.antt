@@ -1,3 +1,4 @@
+-- A byte ahead is a byte of all bytes, so many places on.
 use mathlib.Core.Path.{sym}
 use native.Mathlib.Omega.{arith}
 use Rattle.plfd.proofs.Ahead.{left-ahead, byte-ahead}

@@ -1,3 +1,4 @@
+-- A command that is read has all of its bytes ahead.
 use native.Mathlib.Omega.{arith}
 use mathlib.Core.Path.{sym}
 use Rattle.plfd.specs.Cursor.{ahead}

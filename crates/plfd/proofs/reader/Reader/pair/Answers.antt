@@ -1,3 +1,4 @@
+-- The second byte's place fits.
 use native.Mathlib.Omega.{arith}
 use Rattle.plfd.proofs.Ahead.{left-ahead}
 use Rattle.plfd.proofs.reader.Reader.pair.Needs as need

@@ -1,3 +1,4 @@
+-- The place stays within the bytes.
 use native.Mathlib.Omega.{arith}
 use Rattle.plfd.proofs.Ahead.{left-ahead}
 use Rattle.plfd.proofs.reader.Reader.pass.Needs as need
