@@ -3,6 +3,8 @@ pub mod Fit
 pub mod Stack
 pub mod Ends
 pub mod Growth
+pub mod Spans
+pub mod Progress
 pub mod Standing
 pub mod Laid
 pub mod Sides

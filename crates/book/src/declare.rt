@@ -28,6 +28,7 @@ impl Settings {
         &self.declared[0..self.count]
     }
 
+    /// One setting more, behind those that are declared.
     fn push(&mut self, setting: Setting)
         requires room { ⌜ now self .count < 128 ⌝ }
         ensures declared { λ _. ⌜ now (self .exit) .declared ≡ set (now (self .entry) .declared) (now (self .entry) .count) setting ⌝ }

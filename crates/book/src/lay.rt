@@ -127,6 +127,7 @@ impl Nodes {
 }
 
 impl Rules {
+    /// One rule more, which ends before this place.
     fn push(&mut self, end: u16)
         requires room { ⌜ now self .count < 256 ⌝ }
         ensures ends { λ _. ⌜ now (self .exit) .ends ≡ set (now (self .entry) .ends) (now (self .entry) .count) end ⌝ }

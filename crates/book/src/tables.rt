@@ -5,6 +5,7 @@ ghost use lib.ListN.{length};
 use plfd::nodes::Node;
 use plfd::settings::Setting;
 
+/// How much a book holds at most.
 pub const MAX_SETTINGS: usize = 128;
 
 pub const MAX_NODES: usize = 1024;
@@ -13,6 +14,7 @@ pub const MAX_RULES: usize = 256;
 
 pub const MAX_SUPPOSITIONS: usize = 16;
 
+/// The declared settings, by their numbers.
 #[derive(Drop)]
 pub struct Settings {
     pub(crate) declared: [Setting; MAX_SETTINGS],
@@ -28,6 +30,7 @@ pub struct Placed {
     pub(crate) span: u16,
 }
 
+/// The nodes of all rules, in the order of their codes.
 #[derive(Drop)]
 pub struct Nodes {
     pub(crate) placed: [Placed; MAX_NODES],

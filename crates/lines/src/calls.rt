@@ -23,6 +23,7 @@ pub enum Expected {
 }
 
 impl Expected {
+    /// The same in words.
     pub fn text(self) -> &'static str
         ensures text { λ r. ⌜ now r ≡ expected-text self ⌝ }
     {

@@ -85,6 +85,7 @@ fn read_call(heap: Global, name: &str, operands: &[&str]) -> Result<Line, AllocE
     }
 }
 
+/// The call that a line makes, or what was expected of it.
 pub fn read_line(heap: Global, line: &str) -> Result<Line, AllocError>
     ensures meaning { λ r. ⌜ made r (λ l. meaning l ≡ line-of (now (line .entry))) ⌝ }
 {

@@ -18,6 +18,7 @@ fn add_piece<'a>(words: &mut Vec<&'a str>, piece: &'a str) -> Result<(), AllocEr
     Ok(())
 }
 
+/// The line's words.
 pub(crate) fn split_words<'a>(heap: Global, line: &'a str) -> Result<Vec<&'a str>, AllocError>
     ensures words { λ r. ⌜ made r (λ v. texts (vec-items v) ≡ words-of (now (line .entry))) ⌝ }
 {

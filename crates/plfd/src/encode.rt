@@ -18,6 +18,7 @@ pub struct Encoded {
 }
 
 impl Encoded {
+    /// A command without operands.
     fn single(byte: u8) -> Encoded
         ensures value { λ r. ⌜ take (r .count) (r .bytes) ≡ byte ∷ [] ⌝ }
     {
@@ -27,6 +28,7 @@ impl Encoded {
         }
     }
 
+    /// The command's bytes and no more.
     pub fn as_slice(&self) -> &[u8]
         ensures value { λ r. ⌜ now r ≡ take (now (self .entry) .count) (now (self .entry) .bytes) ⌝ }
     {
@@ -35,6 +37,7 @@ impl Encoded {
 }
 
 impl Connective {
+    /// Its command byte.
     fn byte(self) -> u8
         ensures value { λ r. ⌜ r ≡ connective-byte self ⌝ }
     {
@@ -47,12 +50,14 @@ impl Connective {
     }
 }
 
+/// The high byte of two.
 fn high(number: u16) -> u8
     ensures value { λ r. ⌜ r ≡ number / 256 ⌝ }
 {
     (number / 256) as u8
 }
 
+/// The low byte of two.
 fn low(number: u16) -> u8
     ensures value { λ r. ⌜ r ≡ number % 256 ⌝ }
 {

@@ -23,6 +23,7 @@ pub struct CodeRefusal {
 }
 
 impl CodeFault {
+    /// The number by which a refusal tells it.
     pub fn number(self) -> u8
         ensures value { λ r. ⌜ r ≡ fault-number self ⌝ }
     {

@@ -5,6 +5,7 @@ use plfd::faults::CodeRefusal;
 use plfd::faults::CodeRefusalDebug;
 use plfd::faults::CodeRefusalPartialEq;
 
+/// A refusal has a number, and some name an offset or a setting.
 #[derive(Clone, Copy, PartialEq, Debug)]
 pub enum Refusal {
     SizeZero,
@@ -21,6 +22,7 @@ pub enum Refusal {
 }
 
 impl Refusal {
+    /// The number that tells it from all others.
     pub fn number(self) -> u8
         ensures value { λ r. ⌜ r ≡ number-of (reason-of self) ⌝ }
     {

@@ -1,7 +1,7 @@
 //! review [FILE]: plays a script of calls on one book from new, or the built-in page where no file is named.
 ghost use Rattle.std.specs.Vec.{made};
 ghost use Rattle.book.specs.View.{page-of};
-ghost use Rattle.script.specs.Playing.{Plays};
+ghost use Rattle.script.specs.Playing.{GoesOn, Plays};
 ghost use Rattle.lines.specs.Reading.{line-of};
 ghost use Rattle.script.specs.declared.answers.Played.{Played};
 
@@ -17,7 +17,7 @@ use std::fs;
 
 /// Plays a line and prints what it gave; a line that is no call ends the script.
 fn play(rt: &LibcRuntime, book: &mut Book, number: usize, line: &str) -> Result<(), AnyError>
-    ensures plays { λ r. ⌜ made r (λ _. ((d : Played) × Plays (page-of (now (book .entry))) (now (line .entry)) (line-of (now (line .entry))) d (page-of (now (book .exit))))) ⌝ }
+    ensures plays { λ r. ⌜ made r (λ _. GoesOn (line-of (now (line .entry))) × ((d : Played) × Plays (page-of (now (book .entry))) (now (line .entry)) (line-of (now (line .entry))) d (page-of (now (book .exit))))) ⌝ }
 {
     match play_line(rt.alloc(), book, line)? {
         Played::Nothing => Ok(()),
@@ -32,6 +32,7 @@ fn play(rt: &LibcRuntime, book: &mut Book, number: usize, line: &str) -> Result<
     }
 }
 
+/// The text of the file, or a message that names it.
 fn read_script(rt: &LibcRuntime, path: &str) -> Result<String, AnyError> {
     match fs::read_to_string(rt, path) {
         Ok(text) => Ok(text),
@@ -39,6 +40,7 @@ fn read_script(rt: &LibcRuntime, path: &str) -> Result<String, AnyError> {
     }
 }
 
+/// Plays the file's lines on a new book, and counts them from 1.
 fn play_script(rt: &LibcRuntime, path: &str) -> Result<(), AnyError> {
     let text = read_script(rt, path)?;
     let mut book = Book::new();
@@ -50,6 +52,7 @@ fn play_script(rt: &LibcRuntime, path: &str) -> Result<(), AnyError> {
     Ok(())
 }
 
+/// Plays the built-in page, with its notes.
 fn play_page(rt: &LibcRuntime) -> Result<(), AnyError> {
     let mut book = Book::new();
     for (index, step) in PAGE.iter().enumerate() {

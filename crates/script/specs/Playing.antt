@@ -78,6 +78,12 @@ text-of Nothing = None
 text-of (Shown text) = Some (string-bytes text)
 text-of (Stopped e) = None
 
+-- a line after which a script goes on
+abbrev pub GoesOn : Meaning → Type 0
+GoesOn blank = Unit {0}
+GoesOn (a-call q) = Unit {0}
+GoesOn (not-a-call e) = ⊥
+
 -- what playing a line does to a page: nothing, unless the line is a call
 abbrev pub Plays : Page → List ℕ → Meaning → Played → Page → Type 0
 Plays p line blank d p′ = (d ≡ Nothing) × (p′ ≡ p)

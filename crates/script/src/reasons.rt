@@ -19,6 +19,7 @@ fn fault_reason(fault: CodeFault) -> &'static str
     }
 }
 
+/// Why a call is refused.
 pub fn reason(refusal: Refusal) -> &'static str
     ensures text { λ r. ⌜ now r ≡ refusal-words refusal ⌝ }
 {

@@ -63,6 +63,7 @@ fn say_refusal(heap: Global, refusal: Refusal) -> Result<String, AllocError>
     say_reason(heap, refusal.number(), refusal.value(), reason(refusal))
 }
 
+/// The answer in words.
 pub fn say(heap: Global, answer: &Answer) -> Result<String, AllocError>
     ensures bytes { λ r. ⌜ made r (λ s. string-bytes s ≡ said (now (answer .entry))) ⌝ }
 {

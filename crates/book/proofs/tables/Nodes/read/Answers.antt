@@ -10,7 +10,7 @@ use Rattle.plfd.specs.Cursor.{ahead}
 use Rattle.book.specs.View.{settings-of}
 use Rattle.plfd.proofs.Ahead.{left-ahead}
 use Rattle.plfd.proofs.Checks.{passed-stack}
-use Rattle.book.proofs.Growth.{next-as, finishes}
+use Rattle.book.proofs.Progress.{next-as, finishes}
 use Rattle.book.proofs.tables.Nodes.read.Needs as need
 
 pub loop-reader-again : need.loop-reader-again

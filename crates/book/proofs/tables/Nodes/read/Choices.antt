@@ -3,7 +3,7 @@ use mathlib.Core.Path.{_≡_}
 use Prim.Native.Nat.{_-_}
 use lib.ListN.{length}
 use Rattle.book.specs.View.{settings-of}
-use Rattle.book.proofs.Growth.{Partial}
+use Rattle.book.proofs.Progress.{Partial}
 use Rattle.book.proofs.tables.Nodes.read.Given as given
 
 abbrev pub Inv-loop-reader : given.InvT-loop-reader

@@ -1,6 +1,6 @@
 -- The span of a node from the spans of its sides.
 use native.Mathlib.Omega.{arith}
-use Rattle.book.proofs.Growth.{not-span, join-span}
+use Rattle.book.proofs.Spans.{not-span, join-span}
 use Rattle.book.proofs.tables.Nodes.span_of.Needs as need
 
 pub add-result : need.add-result
