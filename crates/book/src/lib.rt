@@ -1,4 +1,6 @@
 //! The book of one page: its settings and the rules between them.
+#![tactic(auto)]
+
 pub mod book;
 pub mod declare;
 pub mod judge;

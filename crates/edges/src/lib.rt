@@ -1,4 +1,6 @@
 //! Tests only: every refusal of the calls, the last place of each table, the lines of a script, and the sets of each kind.
+#![tactic(auto)]
+
 #[cfg(test)]
 mod kinds;
 #[cfg(test)]

@@ -1,4 +1,6 @@
 //! The logic of finite domains: settings, the nodes of formulas, and the reading of rule codes.
+#![tactic(auto)]
+
 pub mod commands;
 pub mod cursor;
 pub mod encode;

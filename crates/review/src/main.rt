@@ -1,4 +1,6 @@
 //! review [FILE]: plays a script of calls on one book from new, or the built-in page where no file is named.
+#![tactic(auto)]
+
 ghost use Rattle.std.specs.Prelude.{OnOk};
 ghost use Rattle.book.specs.View.{page_of};
 ghost use Rattle.script.specs.Playing.{GoesOn, Plays};

@@ -1,4 +1,6 @@
 //! A run of a rule book as text: calls are made on a book, and what they gave is said.
+#![tactic(auto)]
+
 pub mod answers;
 pub mod playing;
 mod reasons;

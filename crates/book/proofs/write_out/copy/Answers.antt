@@ -8,4 +8,4 @@ returns c =
     let at = c.args.at in
     let buffer = c.args.buffer.now in
     let end = at + length c.args.bytes.now in
-    record { value = refl; buffer = λ i. take at buffer ++ (c.copy-from-slice.ensures.after i ++ Post-is at end buffer (omega arith) i) }
+    record { value = refl; buffer = λ i. take at buffer ++ (c.copy_from_slice.ensures.after i ++ Post-is at end buffer (omega arith) i) }

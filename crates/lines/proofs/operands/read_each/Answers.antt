@@ -4,12 +4,12 @@ use Rattle.std.proofs.ResultArms.{chosen}
 use Rattle.lines.proofs.Rows.{one_more, unread, all_read}
 use Rattle.lines.proofs.operands.read_each.Goals as goal
 
-pub returns-in-default : goal.returns-in-default
-returns-in-default g c = record { values = unread c.loop-word.invariant _ c.loop-word-test.true c.in-default.ensures.value }
+pub returns-in_default : goal.returns-in_default
+returns-in_default g c = record { values = unread c.loop-word.invariant _ c.loop-word-test.true c.in_default.ensures.value }
 
 pub loop-word-preserved : goal.loop-word-preserved
 loop-word-preserved g c =
-    let pushed = chosen _ _ _ _ c.push.ensures.items (ap is_ok c.in-ok-push.was) in
+    let pushed = chosen _ _ _ _ c.push.ensures.items (ap is_ok c.in_ok-push.was) in
     one_more c.loop-word.invariant _ c.loop-word-test.true c.in-Some.ensures.value pushed
 
 pub returns : goal.returns

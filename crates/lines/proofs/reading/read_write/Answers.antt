@@ -4,8 +4,8 @@ use Rattle.lines.specs.Reading.{default_room, write_from, write_of}
 use Rattle.lines.proofs.Requests.{one_text, two_texts, not_write}
 use Rattle.lines.proofs.reading.read_write.Goals as goal
 
-pub returns-in-default : goal.returns-in-default
-returns-in-default c =
+pub returns-in_default : goal.returns-in_default
+returns-in_default c =
     let one : length c.args.operands.now ≡ 1 → ⊥ = λ e. search rules in
     let two : length c.args.operands.now ≡ 2 → ⊥ = λ e. search rules in
     record { call = not_write c.args.operands.now one two }

@@ -5,8 +5,8 @@ use Rattle.lines.specs.Words.{texts}
 use Rattle.lines.proofs.Cutting.{text_more}
 use Rattle.lines.proofs.words.add_piece.Goals as goal
 
-pub returns-in-ok-push : goal.returns-in-ok-push
-returns-in-ok-push c =
+pub returns-in_ok-push : goal.returns-in_ok-push
+returns-in_ok-push c =
     let some : 0 < length c.args.piece.now = search rules in
-    let items = chosen _ _ _ _ c.push.ensures.items (ap is_ok c.in-ok-push.was) in
+    let items = chosen _ _ _ _ c.push.ensures.items (ap is_ok c.in_ok-push.was) in
     record { words = ap texts items ∙ text_more _ c.args.piece some }

@@ -5,8 +5,8 @@ use Rattle.promises.specs.Judging.{chosen}
 use Rattle.book.proofs.Sides.{at_constant, at_atom, at_not, at_join}
 use Rattle.book.proofs.book.Book.+truth_at.Goals as goal
 
-pub overflow-sub-left : goal.overflow-sub-left
-overflow-sub-left t c = (at_join c.args.self.now _ c.requires.within _ c.in-Join.is).1
+pub overflow_sub-left : goal.overflow_sub-left
+overflow_sub-left t c = (at_join c.args.self.now _ c.requires.within _ c.in-Join.is).1
 
 pub returns-in-Constant : goal.returns-in-Constant
 returns-in-Constant t c =
@@ -21,9 +21,9 @@ returns-in-Atomic t c =
 pub returns-in-Not : goal.returns-in-Not
 returns-in-Not t c =
     let e = (at_not c.args.self.now _ c.requires.within c.in-Not.is).1 in
-    record { value = ap not c.truth-at.ensures.value ∙ sym (ap (truth (chosen c.args.row.now)) e) }
+    record { value = ap not c.truth_at.ensures.value ∙ sym (ap (truth (chosen c.args.row.now)) e) }
 
 pub returns-in-Join : goal.returns-in-Join
 returns-in-Join t c =
     let e = (at_join c.args.self.now _ c.requires.within _ c.in-Join.is).3 in
-    record { value = c.joins.ensures.value ∙ (λ i. joined c.in-Join.connective (c.truth-at-in-Join.ensures.value i) (c.truth-at-in-Join-2.ensures.value i)) ∙ sym (ap (truth (chosen c.args.row.now)) e) }
+    record { value = c.joins.ensures.value ∙ (λ i. joined c.in-Join.connective (c.truth_at-in-Join.ensures.value i) (c.truth_at-in-Join-2.ensures.value i)) ∙ sym (ap (truth (chosen c.args.row.now)) e) }

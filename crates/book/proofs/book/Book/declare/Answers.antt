@@ -16,14 +16,14 @@ returns-then-self-gt0 c =
     let open_count = suppositions_count b.suppositions in
     record { gives = record { answer = grind (arith, nat_tests, open_count); page = refl } }
 
-pub invariant-of-self : goal.invariant-of-self
-invariant-of-self c =
+pub invariant_of-self : goal.invariant_of-self
+invariant_of-self c =
     let b = c.args.self.now in
     let setting : Setting = record { size = c.args.size } in
     let room : b.settings.count < length b.settings.declared = omega arith in
     let fitting : Fitting (take c.push.new.self.count c.push.new.self.declared) b.nodes.placed b.nodes.count = λ k h. (λ i. node_fits (take (c.push.ensures.count i) (c.push.ensures.declared i)) (placed b.nodes.placed k).node)
     ∙ push_fits b.settings.declared b.settings.count setting room (placed b.nodes.placed k).node (b.fitting k h) in
-    (b.spans, (b.supplied, (fitting, (b.met, (b.rises, (b.covers, tt))))))
+    record { spans = b.spans; supplied = b.supplied; fitting = fitting; met = b.met; rises = b.rises; covers = b.covers }
 
 pub returns : goal.returns
 returns c =

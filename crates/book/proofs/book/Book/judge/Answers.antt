@@ -14,7 +14,7 @@ returns-then-outside-count c =
     let row = c.args.row.now in
     let S = settings_of b.settings in
     let count = settings_count b.settings in
-    let is = c.lowest-outside-outside.ensures.value in
+    let is = c.lowest_outside-outside.ensures.value in
     let low : lowest_outside S (chosen row) 0 < length S = omega (arith, is, count) in
     record {
       gives = judge_gives (page_of b) row _
@@ -28,10 +28,10 @@ returns c =
     let row = c.args.row.now in
     let S = settings_of b.settings in
     let count = settings_count b.settings in
-    let is = c.lowest-outside-outside.ensures.value in
+    let is = c.lowest_outside-outside.ensures.value in
     let all : length S ≤ lowest_outside S (chosen row) 0 = omega (arith, is, count) in
     record {
       gives = judge_gives (page_of b) row _
-          (ap given c.all-true.ensures.value
+          (ap given c.all_true.ensures.value
           ∙ sym (cond-false _ _ _ (le-ltb (length row) (length S) (omega (arith, count))) ∙ cond-false _ _ _ (le-ltb (lowest_outside S (chosen row) 0) (length S) all)));
     }

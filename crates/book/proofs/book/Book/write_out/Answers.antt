@@ -8,24 +8,24 @@ use Rattle.book.proofs.book.Book.write_out.Goals as goal
 pub returns-then-rule-self : goal.returns-then-rule-self
 returns-then-rule-self c = record { gives = gives_no_rule c.args.self.now c.args.rule c.args.buffer.now c.if-rule-self.true }
 
-pub code-length-requires : goal.code-length-requires
-code-length-requires c =
+pub code_length-requires : goal.code_length-requires
+code_length-requires c =
     let b = c.args.self.now in
     let k = c.args.rule in
     record { order = omega (arith, c.start-from.ensures.value, b.rises k c.if-rule-self.false); within = rule_within b k c.if-rule-self.false; supplied = b.supplied }
 
-pub returns-then-buffer-code-length : goal.returns-then-buffer-code-length
-returns-then-buffer-code-length c =
+pub returns-then-buffer-code_length : goal.returns-then-buffer-code_length
+returns-then-buffer-code_length c =
     let b = c.args.self.now in
     let k = c.args.rule in
     let same = ap (λ from. length (code_between b.nodes.placed from (get_or b.rules.ends k 0))) c.start-from.ensures.value in
-    record { gives = gives_short b k c.args.buffer.now c.if-rule-self.false (omega (arith, same, c.code-length.ensures.value)) }
+    record { gives = gives_short b k c.args.buffer.now c.if-rule-self.false (omega (arith, same, c.code_length.ensures.value)) }
 
 pub write-requires : goal.write-requires
 write-requires c =
     let b = c.args.self.now in
     let k = c.args.rule in
-    record { order = omega (arith, c.start-from.ensures.value, b.rises k c.if-rule-self.false); within = rule_within b k c.if-rule-self.false; supplied = b.supplied; room = omega (arith, c.code-length.ensures.value) }
+    record { order = omega (arith, c.start-from.ensures.value, b.rises k c.if-rule-self.false); within = rule_within b k c.if-rule-self.false; supplied = b.supplied; room = omega (arith, c.code_length.ensures.value) }
 
 pub returns : goal.returns
 returns c =
@@ -33,4 +33,4 @@ returns c =
     let k = c.args.rule in
     let buffer = c.args.buffer.now in
     let same = ap (λ from. code_between b.nodes.placed from (get_or b.rules.ends k 0)) c.start-from.ensures.value in
-    record { gives = gives_code b k buffer c.if-rule-self.false _ _ (omega (arith, ap length same, c.code-length.ensures.value)) (c.write.ensures.value ∙ ap length same) (c.write.ensures.buffer ∙ ap (λ l. l ++ drop (length l) buffer) same) }
+    record { gives = gives_code b k buffer c.if-rule-self.false _ _ (omega (arith, ap length same, c.code_length.ensures.value)) (c.write.ensures.value ∙ ap length same) (c.write.ensures.buffer ∙ ap (λ l. l ++ drop (length l) buffer) same) }

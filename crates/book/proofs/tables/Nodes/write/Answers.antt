@@ -8,10 +8,10 @@ loop-place-init c = written_none c.args.self.now c.requires.supplied c.args.from
 
 pub copy-at-requires : goal.copy-at-requires
 copy-at-requires c =
-    let bytes = c.as-slice.ensures.value ∙ c.encode-command.ensures.value in
-    record { room = room_behind c.args.self.now c.requires.supplied c.args.from c.args.end c.requires.within c.args.buffer.now c.requires.room c.loop-place.invariant (omega arith) c.as-slice.result.now bytes c.loop-place.auto.buffer }
+    let bytes = c.as_slice.ensures.value ∙ c.encode-command.ensures.value in
+    record { room = room_behind c.args.self.now c.requires.supplied c.args.from c.args.end c.requires.within c.args.buffer.now c.requires.room c.loop-place.invariant (omega arith) c.as_slice.result.now bytes c.loop-place.auto.buffer }
 
 pub loop-place-preserved : goal.loop-place-preserved
 loop-place-preserved c =
-    let bytes = c.as-slice.ensures.value ∙ c.encode-command.ensures.value in
-    written_more c.args.self.now c.requires.supplied c.args.from c.args.end c.requires.within c.args.buffer.now c.requires.room c.loop-place.invariant (omega arith) c.as-slice.result.now bytes c.copy-at.new.buffer c.copy-at.result c.copy-at.ensures.value c.copy-at.ensures.buffer
+    let bytes = c.as_slice.ensures.value ∙ c.encode-command.ensures.value in
+    written_more c.args.self.now c.requires.supplied c.args.from c.args.end c.requires.within c.args.buffer.now c.requires.room c.loop-place.invariant (omega arith) c.as_slice.result.now bytes c.copy-at.new.buffer c.copy-at.result c.copy-at.ensures.value c.copy-at.ensures.buffer

@@ -7,5 +7,5 @@ use Rattle.lines.proofs.operands.U16Operand.read.Goals as goal
 
 pub returns : goal.returns
 returns c =
-    let plus = starts_char 43 c.args.word.now false c.if-starts-with.ensures.cases (omega arith) (omega arith) in
+    let plus = starts_char 43 c.args.word.now false c.if-starts_with.ensures.cases (omega arith) (omega arith) in
     record { value = c.ok.ensures.value ∙ parsed c.args.word.now _ c.parse.ensures.value.0 (λ e. false≢true (plus.1 e)) }

@@ -3,8 +3,8 @@ use Rattle.std.proofs.Common.{sym, arith}
 use Rattle.plfd.proofs.Ahead.{left_ahead, byte_ahead}
 use Rattle.plfd.proofs.reader.Reader.byte.Goals as goal
 
-pub overflow-add-result : goal.overflow-add-result
-overflow-add-result c = omega (arith, left_ahead c.args.self.now)
+pub overflow_add-result : goal.overflow_add-result
+overflow_add-result c = omega (arith, left_ahead c.args.self.now)
 
 pub bounds-self-self : goal.bounds-self-self
 bounds-self-self c = omega (arith, left_ahead c.args.self.now)
