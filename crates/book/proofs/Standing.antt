@@ -27,7 +27,7 @@ total-reverse (f ∷ s) = ap total (reverse-cons f s) ∙ total-append (reverse 
 
 -- what a book's type says of its nodes and rules
 abbrev pub InOrder : List Setting → List Placed → ℕ → List ℕ → ℕ → Type 0
-InOrder S ps c ends n = Spans ps c × (Supplied ps c × (Fitting S ps c × ((start ends n ≡ c) × (Rises ends n × (Covers ps ends n × Unit {0})))))
+InOrder S ps c ends n = record { spans : Spans ps c; supplied : Supplied ps c; fitting : Fitting S ps c; met : start ends n ≡ c; rises : Rises ends n; covers : Covers ps ends n }
 
 pub in_order_as : (S : List Setting) {ps ps' : List Placed} {c c' : ℕ} {ends ends' : List ℕ} {n n' : ℕ} → ps' ≡ ps → c' ≡ c → ends' ≡ ends → n' ≡ n → InOrder S ps c ends n → InOrder S ps' c' ends' n'
 in_order_as S {ps} {ps'} {c} {c'} {ends} {ends'} {n} {n'} p q r t h =
@@ -64,7 +64,7 @@ module _ (b : Book) where
     still_in_order =
         let s = old_shaped b.nodes.placed n.placed b.nodes.count old n.room shape in
         let f = old_fitting b.nodes.placed n.placed b.nodes.count old (settings_of b.settings) b.fitting in
-        in_order_as (settings_of b.settings) refl same refl refl (s.spans, (s.supplied, (f, (b.met, (b.rises, (old_covers n.placed old, tt))))))
+        in_order_as (settings_of b.settings) refl same refl refl (record { spans = s.spans; supplied = s.supplied; fitting = f; met = b.met; rises = b.rises; covers = old_covers n.placed old })
 
     pub still_rules : rules_of n ≡ rules_of b.nodes
     still_rules = ap (λ k. reverse (stack n.placed k)) same ∙ ap reverse (old_stack b.nodes.placed n.placed b.nodes.count old b.nodes.count (omega arith))
@@ -120,7 +120,7 @@ module _ (b : Book) (ps : List Placed) (end : ℕ) (f : Formula) (old : take b.n
       (cases_eq k b.rules.count)
 
   pub grown_in_order : InOrder (settings_of b.settings) ps end ends (b.rules.count + 1)
-  grown_in_order = (g.shaped.spans, (g.shaped.supplied, (g.fitting, (grown_met, (grown_rises, (grown_covers, tt))))))
+  grown_in_order = record { spans = g.shaped.spans; supplied = g.shaped.supplied; fitting = g.fitting; met = grown_met; rises = grown_rises; covers = grown_covers }
 
   pub grown_rules : reverse (stack ps end) ≡ rules_of b.nodes ++ f ∷ []
   grown_rules = ap reverse g.made ∙ reverse-cons f (stack b.nodes.placed b.nodes.count)

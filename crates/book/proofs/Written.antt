@@ -81,7 +81,7 @@ module _ (n : Nodes) (supplied : Supplied n.placed n.count) where
 written_on : (before more buffer : List ℕ) → length before + length more ≤ length buffer →
     take (length before) (before ++ drop (length before) buffer) ++ (more ++ drop (length before + length more) (before ++ drop (length before) buffer))
     ≡ (before ++ more) ++ drop (length (before ++ more)) buffer
-written_on before more buffer room =
+written_on before more buffer fits =
     let rest = drop (length before) buffer in
     let behind : drop (length before + length more) (before ++ rest) ≡ drop (length (before ++ more)) buffer =
     sym (drop-drop (length more) (length before) (before ++ rest))

@@ -11,4 +11,4 @@ returns-in_default c =
     let lay : name ≡ codes "lay" → ⊥ = search rules in
     let write : name ≡ codes "write" → ⊥ = search rules in
     let judge : name ≡ codes "judge" → ⊥ = search rules in
-    record { meaning = c.call-or-expected-in_default.ensures.meaning ∙ no_name name (texts c.args.operands.now) declare lay write judge }
+    record { meaning = c.call_or_expected-in_default.ensures.meaning ∙ no_name name (texts c.args.operands.now) declare lay write judge }

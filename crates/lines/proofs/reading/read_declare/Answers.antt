@@ -14,7 +14,7 @@ returns-in_err-size c =
     let one : length c.args.operands.now ≡ 1 = search rules in
     record {
       call =
-          ap (option_map request_of) c.from-residual.ensures
+          ap (option_map request_of) c.from_residual.ensures
           ∙ ap (option_map declare) c.in_err-size.ensures.value
           ∙ ap declare_of (one_text c.args.operands.now _ one);
     }

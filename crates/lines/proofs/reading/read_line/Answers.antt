@@ -17,4 +17,4 @@ returns c =
     let told = starts_char 35 c.in-Some.name.now.now false c.if-starts_with.ensures.cases (omega arith) (omega arith) in
     let same = by_name c.args.line.now c.as_slice.result.now (ap texts c.as_slice.ensures.value ∙ c.in_ok-words.ensures.words)
     c.in-Some.name.now c.in-Some.operands.now c.in-Some.ensures.cases.0 (λ e. false≢true (told.1 e)) in
-    record { meaning = subst (λ m. IfOk c.read-call.result (λ l. meaning l ≡ m)) same c.read-call.ensures.meaning }
+    record { meaning = subst (λ m. IfOk c.read_call.result (λ l. meaning l ≡ m)) same c.read_call.ensures.meaning }

@@ -15,7 +15,7 @@ returns-in-len1 c =
     let one : length c.args.operands.now ≡ 1 = search rules in
     record {
       call =
-          c.write-call.ensures.call
+          c.write_call.ensures.call
           ∙ ap (λ rule. write_from rule (Some default_room)) c.read.ensures.value
           ∙ ap write_of (one_text c.args.operands.now _ one);
     }
@@ -25,7 +25,7 @@ returns-in-len2 c =
     let two : length c.args.operands.now ≡ 2 = search rules in
     record {
       call =
-          c.write-call-in-len2.ensures.call
+          c.write_call-in-len2.ensures.call
           ∙ (λ i. write_from (c.read-in-len2.ensures.value i) (c.read-in-len2-2.ensures.value i))
           ∙ ap write_of (two_texts c.args.operands.now _ two);
     }

@@ -6,8 +6,8 @@ use Rattle.book.proofs.tables.Nodes.code_length.Goals as goal
 pub loop-place-init : goal.loop-place-init
 loop-place-init c = (omega arith, sym (ap length (between_none c.args.self.now c.requires.supplied c.args.from)))
 
-pub overflow_add_bytes-in-loop-place : goal.overflow_add_bytes-in-loop-place
-overflow_add_bytes-in-loop-place c =
+pub overflow_add-bytes-in-loop-place : goal.overflow_add-bytes-in-loop-place
+overflow_add-bytes-in-loop-place c =
     let more = between_length c.args.self.now c.requires.supplied c.args.from c.loop-place.place c.loop-place.invariant.0 (omega arith) in
     let few = between_bound c.args.self.now c.requires.supplied c.args.from (c.loop-place.place + 1) (omega arith) in
     omega (arith, c.loop-place.invariant, c.operands.ensures, more, few)

@@ -5,4 +5,4 @@ use Rattle.kinds.proofs.wide.WideSetKind.range.Goals as goal
 
 pub loop-i-preserved : goal.loop-i-preserved
 loop-i-preserved c =
-    (search rules, right_more _ _ _ _ (omega arith) c.loop-i.invariant.1 c.range-behind.ensures.members)
+    (search rules, right_more _ _ _ _ (omega arith) c.loop-i.invariant.1 c.range_behind.ensures.members)
