@@ -11,8 +11,8 @@ returns-in-Nothing c =
     let passed = c.in-Nothing.is in
     record { plays = goes_on (page_of c.args.book.now) line (line_of line) c.in_ok-play_line.field-0 (page_of c.play_line.new.book) (λ e stopped. let z : ◌≡◌ {A = ℕ} 0 1 = cc in omega arith) c.in_ok-play_line.ensures.plays }
 
-pub returns-in_ok-println : goal.returns-in_ok-println
-returns-in_ok-println c =
+pub returns-in_ok-println-in-Shown : goal.returns-in_ok-println-in-Shown
+returns-in_ok-println-in-Shown c =
     let line = c.args.line.now in
     let shown = c.in-Shown.is in
     record { plays = goes_on (page_of c.args.book.now) line (line_of line) c.in_ok-play_line.field-0 (page_of c.play_line.new.book) (λ e stopped. let z : ◌≡◌ {A = ℕ} 0 1 = cc in omega arith) c.in_ok-play_line.ensures.plays }

@@ -6,8 +6,8 @@ use Rattle.script.proofs.playing.write_out.Goals as goal
 pub returns-in-Ok : goal.returns-in-Ok
 returns-in-Ok c =
     let buffer = c.in_ok-buffer.buffer in
-    let after = c.write-out.new.buffer in
-    let same : length after ≡ buffer.len = c.write-out.auto.buffer ∙ c.deref_mut.ensures.len in
+    let after = c.write_out.new.buffer in
+    let same : length after ≡ buffer.len = c.write_out.auto.buffer ∙ c.deref_mut.ensures.len in
     let whole = take_at after (drop (length after) buffer.items) buffer.len same in
     record {
       gives = record {
