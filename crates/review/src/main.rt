@@ -14,6 +14,7 @@ use book::book::Book;
 use page::PAGE;
 use script::answers::Played;
 use script::playing::play_line;
+use std::process::ExitCode;
 use std::{env, fs};
 
 /// Plays a line and prints what it gave; a line that is no call ends the script.
@@ -77,12 +78,15 @@ fn run(rt: &HostRuntime) -> anyhow::Result<()> {
     }
 }
 
-fn main(rt: HostRuntime) -> anyhow::Result<()> {
-    let played = run(&rt);
-    if let Err(error) = &played {
-        eprintln!(rt; "review: {error}")?;
+/// What stopped the script is said once, on standard error, and ends the program with status 1.
+fn main(rt: HostRuntime) -> anyhow::Result<ExitCode> {
+    match run(&rt) {
+        Ok(()) => Ok(ExitCode::SUCCESS),
+        Err(error) => {
+            eprintln!(rt; "review: {error}")?;
+            Ok(ExitCode::FAILURE)
+        }
     }
-    played
 }
 
 #[cfg(test)]
