@@ -2,10 +2,10 @@
 #![tactic(auto)]
 
 #[cfg(test)]
-mod kinds;
-#[cfg(test)]
 mod limits;
 #[cfg(test)]
-mod lines;
-#[cfg(test)]
 mod refusals;
+#[cfg(test)]
+mod script_lines;
+#[cfg(test)]
+mod set_kinds;

@@ -19,7 +19,7 @@ fn read_declare(operands: &[&str]) -> Option<Call>
     let [size] = operands else {
         return None;
     };
-    let size = <u16 as crate::operands::Operand>::read(size)?;
+    let size = u16::read(size)?;
     Some(Call::Declare { size })
 }
 
@@ -44,14 +44,8 @@ fn read_write(operands: &[&str]) -> Option<Call>
     ensures call { option_map request_of result ≡ write_of (texts operands.now) }
 {
     match operands {
-        [rule] => write_call(
-            <u16 as crate::operands::Operand>::read(rule),
-            Some(DEFAULT_ROOM),
-        ),
-        [rule, room] => write_call(
-            <u16 as crate::operands::Operand>::read(rule),
-            <u16 as crate::operands::Operand>::read(room),
-        ),
+        [rule] => write_call(u16::read(rule), Some(DEFAULT_ROOM)),
+        [rule, room] => write_call(u16::read(rule), u16::read(room)),
         _ => None,
     }
 }

@@ -1,5 +1,5 @@
 -- Reading a rule code: the formula that it says, or the first fault with its offset.
-use Rattle.std.specs.Prelude.{ℕ, zero, suc, ◌+◌, ◌*◌, Bool, true, false, not, leb, List, [], ◌∷◌, length, Some, None, Option, nat_eq, nat_le, nat_lt, slice_index, slice_index_or}
+use Rattle.std.specs.Prelude.{ℕ, zero, suc, ◌+◌, ◌*◌, Bool, true, false, not, List, [], ◌∷◌, length, Some, None, Option, nat_eq, nat_le, nat_lt, slice_index, slice_index_or}
 use Rattle.plfd.specs.declared.settings.Setting.{Setting}
 use Rattle.plfd.specs.declared.nodes.Atom.TheVariants.{Is, Range}
 use Rattle.plfd.specs.declared.nodes.Connective.TheVariants.{And, Or, Implies, Iff}
@@ -73,7 +73,7 @@ commanded S at bs = and_then (decoded at bs) (λ n. unless (setting_checks S at 
 abbrev pub stack_checks : ℕ → ℕ → ℕ → Node → List Check
 stack_checks made used at n =
     nat_lt made (arity n) ⇒ fault TooFewFormulas at ∷
-    leb node_limit used ⇒ fault NodesFull at ∷ []
+    nat_le node_limit used ⇒ fault NodesFull at ∷ []
 
 -- at the end there is one formula
 abbrev pub end_checks : ℕ → ℕ → List Check
