@@ -1,5 +1,5 @@
 //! New books, and the declaring of settings.
-ghost use Rattle.std.specs.Prelude.{◌≡◌, ◌+◌, ◌<◌, set, slice_set};
+ghost use Rattle.std.specs.Prelude.{◌≡◌, ◌+◌, ◌<◌, slice_set};
 ghost use Rattle.promises.specs.Declaring.{DeclareGives};
 ghost use Rattle.promises.specs.Page.{blank};
 ghost use Rattle.promises.specs.Refusals.{told};

@@ -7,18 +7,19 @@ ghost use Rattle.script.specs.Playing.{GoesOn, Plays};
 ghost use Rattle.lines.specs.Reading.{line_of};
 ghost use Rattle.script.specs.declared.answers.Played.{Played};
 
+mod failure;
 mod page;
 
-use anyhow::anyhow;
 use book::book::Book;
+use failure::Failure;
 use page::PAGE;
 use script::answers::Played;
 use script::playing::play_line;
 use std::process::ExitCode;
-use std::{env, fs};
+use std::{env, fs, io};
 
 /// Plays a line and prints what it gave; a line that is no call ends the script.
-fn play(rt: &HostRuntime, book: &mut Book, number: usize, line: &str) -> anyhow::Result<()>
+fn play(rt: &HostRuntime, book: &mut Book, number: usize, line: &str) -> Result<(), Failure>
     ensures plays { OnOk result (GoesOn (line_of line.now) × ((d : Played) × Plays (page_of book.old) line.now (line_of line.now) d (page_of book.new))) }
 {
     match play_line(rt.alloc(), book, line)? {
@@ -27,23 +28,26 @@ fn play(rt: &HostRuntime, book: &mut Book, number: usize, line: &str) -> anyhow:
             println!(rt; "{text}")?;
             Ok(())
         }
-        Played::Stopped(expected) => {
-            let expected = expected.text();
-            Err(anyhow!(format!(in rt.alloc(); "line {number}: {expected}")?))
-        }
+        Played::Stopped(expected) => Err(Failure::NoCall {
+            number,
+            expected: expected.text(),
+        }),
     }
 }
 
 /// The text of the file, or a message that names it.
-fn read_script(rt: &HostRuntime, path: &str) -> anyhow::Result<String> {
+fn read_script(rt: &HostRuntime, path: &str) -> Result<String, Failure> {
     match fs::read_to_string(rt, path) {
         Ok(text) => Ok(text),
-        Err(error) => Err(anyhow!(format!(in rt.alloc(); "cannot read {path}: {error}")?)),
+        Err(error) => Err(Failure::Unreadable {
+            path: String::from_str(rt.alloc(), path)?,
+            error,
+        }),
     }
 }
 
 /// Plays the file's lines on a new book, and counts them from 1.
-fn play_script(rt: &HostRuntime, path: &str) -> anyhow::Result<()> {
+fn play_script(rt: &HostRuntime, path: &str) -> Result<(), Failure> {
     let text = read_script(rt, path)?;
     let mut book = Book::new();
     let mut number = 0usize;
@@ -55,7 +59,7 @@ fn play_script(rt: &HostRuntime, path: &str) -> anyhow::Result<()> {
 }
 
 /// Plays the built-in page, with its notes.
-fn play_page(rt: &HostRuntime) -> anyhow::Result<()> {
+fn play_page(rt: &HostRuntime) -> Result<(), Failure> {
     let mut book = Book::new();
     for (index, step) in PAGE.iter().enumerate() {
         println!(rt; "{}", step.note)?;
@@ -68,22 +72,22 @@ fn play_page(rt: &HostRuntime) -> anyhow::Result<()> {
     Ok(())
 }
 
-fn run(rt: &HostRuntime) -> anyhow::Result<()> {
+fn run(rt: &HostRuntime) -> Result<(), Failure> {
     let mut args = env::args(rt)?;
     let _program = args.next();
     match (args.next(), args.next()) {
         (None, _) => play_page(rt),
         (Some(path), None) => play_script(rt, path.as_str()),
-        (Some(_), Some(_)) => Err(anyhow!("usage: review [FILE]")),
+        (Some(_), Some(_)) => Err(Failure::Usage),
     }
 }
 
 /// What stopped the script is said once, on standard error, and ends the program with status 1.
-fn main(rt: HostRuntime) -> anyhow::Result<ExitCode> {
+fn main(rt: HostRuntime) -> io::Result<ExitCode> {
     match run(&rt) {
         Ok(()) => Ok(ExitCode::SUCCESS),
-        Err(error) => {
-            eprintln!(rt; "review: {error}")?;
+        Err(failure) => {
+            eprintln!(rt; "review: {failure}")?;
             Ok(ExitCode::FAILURE)
         }
     }
@@ -94,7 +98,7 @@ mod tests {
     use super::*;
     use std::test::Fail;
 
-    fn message(rt: &HostRuntime, played: anyhow::Result<()>) -> Result<String, Fail> {
+    fn message(rt: &HostRuntime, played: Result<(), Failure>) -> Result<String, Fail> {
         match played {
             Ok(()) => Err(Fail::new("the script was played to its end")),
             Err(error) => Ok(error.to_string(rt.alloc())?),

@@ -1,5 +1,5 @@
 -- A closed tableau leaves no assignment; and the tape of a none is a closed tableau, in bytes.
-use Rattle.std.proofs.Common.{◌≡◌, ℕ, zero, suc, ◌/◌, ◌%◌, ◌<◌, ◌≤◌, Bool, true, List, [], ◌∷◌, ◌++◌, map, length, get_or, sym, refl, ap, ◌∙◌, subst, ⊎_elim, append_assoc, append-nil, arith}
+use Rattle.std.proofs.Common.{◌≡◌, ℕ, zero, suc, ◌/◌, ◌%◌, ◌<◌, ◌≤◌, Bool, true, leb, List, [], ◌∷◌, ◌++◌, map, length, get_or, sym, refl, ap, ◌∙◌, subst, ⊎_elim, append_assoc, append-nil, arith}
 use Rattle.std.proofs.lemmas.Bool.{false≢true, and_from, and_parts, le-leb, leb-true}
 use Rattle.plfd.specs.declared.settings.Setting.{Setting}
 use Rattle.plfd.specs.declared.nodes.Atom.{Atom}
@@ -63,7 +63,7 @@ module _ (S : List Setting) where
 
     cut_fits : (a : Atom) (s : Bool) → fits (cut a s b) ≡ true
     cut_fits a s =
-        let p = and_parts _ _ (light_fits b c g) in
+        let p : (leb (length b.entries) branch_limit ≡ true) × (leb b.narrowings branch_limit ≡ true) = and_parts _ _ (light_fits b c g) in
         let few : suc b.narrowings ≤ branch_limit = omega (arith, g.narrow_once, leb-true (length b.entries) branch_limit p.0) in
         and_from _ _ p.0 (le-leb _ _ few)
 
