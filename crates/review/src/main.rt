@@ -1,9 +1,9 @@
 //! review [FILE]: plays a script of calls on one book from new, or the built-in page where no file is named.
 #![tactic(auto)]
 
-ghost use Rattle.std.specs.Prelude.{OnOk};
+ghost use Rattle.std.specs.Prelude.{OnOk, OnErr};
 ghost use Rattle.book.specs.View.{page_of};
-ghost use Rattle.script.specs.Playing.{GoesOn, Plays};
+ghost use Rattle.script.specs.Playing.{GoesOn, Plays, Leaves};
 ghost use Rattle.lines.specs.Reading.{line_of};
 ghost use Rattle.script.specs.declared.answers.Played.{Played};
 
@@ -21,6 +21,7 @@ use std::{env, fs, io};
 /// Plays a line and prints what it gave; a line that is no call ends the script.
 fn play(rt: &HostRuntime, book: &mut Book, number: usize, line: &str) -> Result<(), Failure>
     ensures plays { OnOk result (GoesOn (line_of line.now) × ((d : Played) × Plays (page_of book.old) line.now (line_of line.now) d (page_of book.new))) }
+    ensures leaves { OnErr result (Leaves (page_of book.old) (line_of line.now) (page_of book.new)) }
 {
     match play_line(rt.alloc(), book, line)? {
         Played::Nothing => Ok(()),

@@ -1,5 +1,5 @@
 -- What a call that is made on a book answers, and what a line that is played leaves.
-use Rattle.std.specs.Prelude.{◌≡◌, ℕ, Bool, List, ◌∷◌, ◌++◌, length, take, Some, None, Ok, Err, vec_items, string_bytes, codes, Option, Result}
+use Rattle.std.specs.Prelude.{◌≡◌, ℕ, Bool, ◌⊎◌, List, ◌∷◌, ◌++◌, length, take, Some, None, Ok, Err, vec_items, string_bytes, codes, Option, Result}
 use Rattle.promises.specs.declared.refusals.Refusal.{Refusal}
 use Rattle.promises.specs.Refusals.{told}
 use Rattle.promises.specs.Page.{Page}
@@ -78,3 +78,14 @@ abbrev pub Plays : Page → List ℕ → Meaning → Played → Page → Type 0
 Plays p line blank d p' = (d ≡ Nothing) × (p' ≡ p)
 Plays p line (a_call q) d p' = (a : Answer) × (text_of d ≡ Some (shown line a)) × Performs p q a p'
 Plays p line (not_a_call e) d p' = (d ≡ Stopped e) × (p' ≡ p)
+
+-- the line is a call, and p' is what making it on a book of the page p leaves
+pub record Made (p : Page) (m : Meaning) (p' : Page) : Type 0 where
+  pub request : Request
+  pub answer : Answer
+  pub is_call : m ≡ a_call request
+  pub performs : Performs p request answer p'
+
+-- what a line leaves whose answer could not be shown: the page as it was, or as its call leaves it
+abbrev pub Leaves : Page → Meaning → Page → Type 0
+Leaves p m p' = (p' ≡ p) ⊎ Made p m p'

@@ -1,9 +1,9 @@
 //! A line is played: its call is made on the book, and what it gave is said.
-ghost use Rattle.std.specs.Prelude.{◌≡◌, IfOk};
+ghost use Rattle.std.specs.Prelude.{◌≡◌, IfOk, OnErr};
 ghost use Rattle.book.specs.View.{page_of};
 ghost use Rattle.lines.specs.Calls.{request_of};
 ghost use Rattle.lines.specs.Reading.{line_of};
-ghost use Rattle.script.specs.Playing.{setting_answer, rule_answer, verdict_answer, Writes, Performs, Plays};
+ghost use Rattle.script.specs.Playing.{setting_answer, rule_answer, verdict_answer, Writes, Performs, Plays, Leaves};
 
 use crate::answers::{Answer, Played};
 use crate::saying::say;
@@ -58,6 +58,7 @@ fn write_out(heap: Global, book: &Book, rule: u16, room: u16) -> Result<Answer, 
 /// Makes the call on the book.
 pub fn perform(heap: Global, book: &mut Book, call: &Call) -> Result<Answer, AllocError>
     ensures gives { IfOk result (λ a. Performs (page_of book.old) (request_of call.now) a (page_of book.new)) }
+    ensures kept { OnErr result (page_of book.new ≡ page_of book.old) }
 {
     match call {
         Call::Declare { size } => Ok(answer_declare(book.declare(*size))),
@@ -70,6 +71,7 @@ pub fn perform(heap: Global, book: &mut Book, call: &Call) -> Result<Answer, All
 /// Plays one line of a script on the book.
 pub fn play_line(heap: Global, book: &mut Book, line: &str) -> Result<Played, AllocError>
     ensures plays { IfOk result (λ d. Plays (page_of book.old) line.now (line_of line.now) d (page_of book.new)) }
+    ensures leaves { OnErr result (Leaves (page_of book.old) (line_of line.now) (page_of book.new)) }
 {
     match read_line(heap, line)? {
         Line::Blank => Ok(Played::Nothing),

@@ -144,21 +144,28 @@ connective_pages =
     lone 4 (bytes 6 0x04_00_00_01_00_02) (walks 1) (ends_found 1 ((1 ∷ 2 ∷ []) ∷ []) (1 ∷ [])) ∷
     lone 4 (bytes 7 0x04_00_00_01_00_02_05) (walks 3) (ends_found 2 ((0 ∷ 3 ∷ []) ∷ []) (0 ∷ [])) ∷ []
 
--- tapes: a tableau that splits last, each fault, and where two faults meet the one that counts
+-- tapes: a tableau that splits last, each fault at the tape's start or behind a command, and where two faults meet the
+-- one that counts
 abbrev pub examined_pages : List Worked
 examined_pages =
     broken (examines (bytes 19 0x22_00_01_22_00_02_21_00_00_22_00_03_24_00_22_00_03_24_01)) (accepts 7) ∷
     hopeless (examines (bytes 4 0x23_00_00_00)) (refuses (tape_fault TrailingByte 3)) ∷
     hopeless (examines (bytes 1 0x25)) (refuses (tape_fault UnknownCommand 0)) ∷
+    at_odds (examines (bytes 4 0x22_00_00_25)) (refuses (tape_fault UnknownCommand 3)) ∷
     hopeless (examines (bytes 2 0x23_01)) (refuses (tape_fault CutShort 0)) ∷
+    at_odds (examines (bytes 5 0x22_00_00_22_00)) (refuses (tape_fault CutShort 3)) ∷
+    at_odds (examines (bytes 4 0x22_00_00_24)) (refuses (tape_fault CutShort 3)) ∷
     hopeless (examines (bytes 3 0x23_00_01)) (refuses (tape_fault NotThere 0)) ∷
     hopeless (examines (bytes 2 0x24_00)) (refuses (tape_fault NotThere 0)) ∷
+    at_odds (examines (bytes 6 0x22_00_00_22_00_02)) (refuses (tape_fault NotThere 3)) ∷
+    at_odds (examines (bytes 5 0x22_00_00_24_01)) (refuses (tape_fault NotThere 3)) ∷
     hopeless (examines (bytes 3 0x22_00_00)) (refuses (tape_fault Misfit 0)) ∷
     at_odds (examines (bytes 5 0x22_00_00_24_00)) (refuses (tape_fault SetNotEmpty 3)) ∷
     at_odds (examines (repeated 1025 (bytes 3 0x22_00_00))) (refuses (tape_fault BranchFull 3072)) ∷
     lone 2 neither (examines (repeated 1024 (bytes 3 0x20_00_00))) (refuses (tape_fault BranchFull 3069)) ∷
     lone 2 neither (examines (repeated 1023 (bytes 3 0x20_00_00) ++ bytes 3 0x21_00_00)) (refuses (tape_fault Misfit 3069)) ∷
-    hopeless (examines []) (refuses (tape_fault BranchOpen 0)) ∷ []
+    hopeless (examines []) (refuses (tape_fault BranchOpen 0)) ∷
+    at_odds (examines (bytes 3 0x22_00_00)) (refuses (tape_fault BranchOpen 3)) ∷ []
 
 abbrev pub worked_pages : List Worked
 worked_pages = walked_pages ++ (connective_pages ++ examined_pages)
