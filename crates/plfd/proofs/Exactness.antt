@@ -1,7 +1,7 @@
 -- The law of reading: the code of a formula that fits is read as it, and whatever is read as a formula is its code.
-use Rattle.std.proofs.Common.{◌≡◌, ℕ, zero, suc, ◌+◌, ◌<◌, ◌≤◌, true, ltb, leb, List, [], ◌∷◌, ◌++◌, length, drop, sym, refl, ap, ◌∙◌, subst, append_assoc, append-nil, arith}
+use Rattle.std.proofs.Common.{◌≡◌, ℕ, zero, suc, ◌+◌, ◌<◌, ◌≤◌, true, List, [], ◌∷◌, ◌++◌, length, drop, sym, refl, ap, ◌∙◌, subst, append_assoc, append-nil, arith}
 use Rattle.std.proofs.lemmas.List.{length-append, length-drop, get_or-drop, drop_at}
-use Rattle.std.proofs.lemmas.Bool.{ne_eqb, cond-false, cond-true, le-ltb, lt-ltb, lt-leb, and_parts}
+use Rattle.std.proofs.lemmas.Bool.{le-ltb, lt-leb, and_parts}
 use Rattle.plfd.specs.declared.settings.Setting.{Setting}
 use Rattle.plfd.specs.declared.nodes.Node.{Node}
 use Rattle.plfd.specs.declared.nodes.Node.TheVariants.{Constant, Atomic, Not, Join}
@@ -12,7 +12,7 @@ use Rattle.plfd.specs.Reading.{node_limit, commanded, stack_checks, end_checks, 
 use Rattle.plfd.specs.Exact.{Bytes, ReadingIsExact}
 use Rattle.plfd.proofs.Spelling.{IsCommand, is_command, command_length, commands}
 use Rattle.plfd.proofs.Steps.{next_command, refused_command}
-use Rattle.plfd.proofs.Checks.{given≢refused, passed_stack}
+use Rattle.plfd.proofs.Checks.{given≢refused, unless_none, passed_stack, passed_end}
 use Rattle.plfd.proofs.Stacks.{raise_total, raise_codes, raise_formed}
 
 -- ---- a code is read
@@ -22,8 +22,7 @@ module _ (S : List Setting) where
       let bs = command n ++ rest in
       let long : width n ≤ length bs = omega (arith, command_length n, length-append (command n) rest) in
       next_command S u s at bs n (commands S at n rest fits) long
-      ∙ cond-false (ltb (length s) (arity n)) _ _ (le-ltb _ _ enough)
-      ∙ cond-false (leb node_limit u) _ _ (lt-leb _ _ room)
+      ∙ unless_none (stack_checks (length s) u at n) (le-ltb _ _ enough, (lt-leb _ _ room, tt))
       ∙ (λ i. reading S (u + 1) (raise s n) (at + sym (command_length n) i) 0 (drop_at (command n) rest (width n) (command_length n) i))
 
   reads_on : (f : Formula) (u : ℕ) (s : List Formula) (at : ℕ) (rest : List ℕ) → well_formed S f ≡ true → u + nodes f ≤ node_limit → reading S u s at 0 (code f ++ rest) ≡ reading S (u + nodes f) (f ∷ s) (at + length (code f)) 0 rest
@@ -63,8 +62,7 @@ finished S [] u at f few all e = absurd (given≢refused (sym e))
 finished S (g ∷ []) u at f few all e =
     let same : g ≡ f = cc in
     subst (λ x. Read S (g ∷ []) u [] x) same (record { written = append-nil (code g); formed = (and_parts (well_formed S g) true all).0; room = omega arith })
-finished S (g ∷ h ∷ s) u at f few all e =
-    absurd (given≢refused (sym e ∙ cond-false _ _ _ (ne_eqb (length (g ∷ h ∷ s)) 0 (λ z. omega arith)) ∙ cond-true _ _ _ (lt-ltb 1 (length (g ∷ h ∷ s)) (omega arith))))
+finished S (g ∷ h ∷ s) u at f few all e = absurd (omega (arith, (passed_end (length (g ∷ h ∷ s)) at e).0))
 
 abbrev Sound : List Setting → Formula → ℕ → Type 0
 Sound S f k = (s : List Formula) (u at : ℕ) (bs : List ℕ) → length bs ≤ k → u ≤ node_limit → Bytes bs → all_formed S s ≡ true → reading S u s at 0 bs ≡ given f → Read S s u bs f

@@ -1,6 +1,6 @@
 -- A command that is read is spelled by its bytes and fits the settings; and the bytes of a node that fits are read as it.
-use Rattle.std.proofs.Common.{◌≡◌, ℕ, zero, suc, ◌+◌, ◌*◌, ◌/◌, ◌%◌, ◌<◌, ◌≤◌, true, false, not, ltb, leb, List, [], ◌∷◌, ◌++◌, length, get_or, drop, Some, None, Option, sym, refl, ap, ◌∙◌, subst, arith}
-use Rattle.std.proofs.lemmas.Bool.{cond-false, cond_both, le-ltb, lt-ltb, lt-leb, ltb-true, ltb-false, leb-false, and_parts, and_from, not-false, not_from_true}
+use Rattle.std.proofs.Common.{◌≡◌, ℕ, zero, suc, ◌+◌, ◌*◌, ◌/◌, ◌%◌, ◌<◌, ◌≤◌, true, false, nat_lt, List, [], ◌∷◌, ◌++◌, length, slice_index, drop, Some, None, Option, sym, refl, ap, ◌∙◌, subst, arith}
+use Rattle.std.proofs.lemmas.Bool.{le-ltb, lt-ltb, lt-leb, ltb-true, ltb-false, leb-false, and_parts, and_from, not-false, not_from_true}
 use Rattle.plfd.specs.declared.settings.Setting.{Setting}
 use Rattle.plfd.specs.declared.nodes.Atom.TheVariants.{Is, Range}
 use Rattle.plfd.specs.declared.nodes.Connective.TheVariants.{And, Or, Implies, Iff}
@@ -8,13 +8,11 @@ use Rattle.plfd.specs.declared.nodes.Node.{Node}
 use Rattle.plfd.specs.declared.nodes.Node.TheVariants.{Constant, Atomic, Not, Join}
 use Rattle.plfd.specs.declared.faults.CodeFault.TheVariants.{CutShort, UnknownCommand}
 use Rattle.plfd.specs.Answers.{Answer, given, refused, and_then, unless, ◌⇒◌}
-use Rattle.plfd.specs.Settings.{setting}
-use Rattle.plfd.specs.Formula.{named, choosable}
 use Rattle.plfd.specs.Code.{command, operands, width, node_fits}
 use Rattle.plfd.specs.Faults.{fault}
-use Rattle.plfd.specs.Reading.{pair, node_of, decoded, setting_checks, commanded, names_undeclared, names_no_choice}
+use Rattle.plfd.specs.Reading.{pair, node_of, decoded, setting_checks, commanded}
 use Rattle.plfd.specs.Exact.{Bytes}
-use Rattle.plfd.proofs.Checks.{given≢refused}
+use Rattle.plfd.proofs.Checks.{given≢refused, NoneHolds, unless_none, passed_checks}
 
 -- ---- what is read
 
@@ -31,7 +29,7 @@ high_byte h l small = omega arith
 pub low_byte : (h l : ℕ) → l < 256 → l ≡ (h * 256 + l) % 256
 low_byte h l small = omega arith
 
-spells_is : (bs : List ℕ) → Spelled (3 ∷ bs) (Atomic (Is (get_or bs 0 0) (pair bs 1)))
+spells_is : (bs : List ℕ) → Spelled (3 ∷ bs) (Atomic (Is (slice_index bs 0) (pair bs 1)))
 spells_is [] long B = absurd (omega arith)
 spells_is (x ∷ []) long B = absurd (omega arith)
 spells_is (x ∷ h ∷ []) long B = absurd (omega arith)
@@ -39,7 +37,7 @@ spells_is (x ∷ h ∷ l ∷ bs) long B =
     let small : l < 256 = B 3 in
     λ i. 3 ∷ x ∷ high_byte h l small i ∷ low_byte h l small i ∷ bs
 
-spells_within : (bs : List ℕ) → Spelled (4 ∷ bs) (Atomic (Range (get_or bs 0 0) (pair bs 1) (pair bs 3)))
+spells_within : (bs : List ℕ) → Spelled (4 ∷ bs) (Atomic (Range (slice_index bs 0) (pair bs 1) (pair bs 3)))
 spells_within [] long B = absurd (omega arith)
 spells_within (x ∷ []) long B = absurd (omega arith)
 spells_within (x ∷ h ∷ []) long B = absurd (omega arith)
@@ -69,50 +67,44 @@ pub record IsCommand (S : List Setting) (bs : List ℕ) (n : Node) : Type 0 wher
   pub fits : node_fits S n ≡ true
   pub spelled : Bytes bs → bs ≡ command n ++ drop (width n) bs
 
--- what holds of the node where one is given
-abbrev OfGiven : (Node → Type 0) → Answer Node → Type 0
-OfGiven P (given n) = P n
-OfGiven P (refused w) = Unit {0}
+-- a node fits the settings exactly where none of their checks holds of it
+fits_if : (S : List Setting) (at : ℕ) (n : Node) → NoneHolds (setting_checks S at n) → node_fits S n ≡ true
+fits_if S at (Constant b) h = refl
+fits_if S at (Atomic a) h = and_from _ _ (lt-ltb _ _ (leb-false _ _ h.0)) (not-false _ h.1.0)
+fits_if S at Not h = refl
+fits_if S at (Join k) h = refl
 
-node_checked : (S : List Setting) (at : ℕ) (n : Node) → OfGiven (λ m. node_fits S m ≡ true) (unless (setting_checks S at n) (given n))
-node_checked S at (Constant b) = refl
-node_checked S at (Atomic a) =
-    let P : Answer Node → Type 0 = OfGiven (λ m. node_fits S m ≡ true) in
-    cond_both (leb (length S) (named a)) _ _ P (λ _. tt)
-    (λ declared. cond_both (not (choosable (setting S (named a)) a)) _ _ P (λ _. tt)
-    (λ chosen. and_from _ _ (lt-ltb (named a) (length S) (leb-false _ _ declared)) (not-false _ chosen)))
-node_checked S at Not = refl
-node_checked S at (Join k) = refl
+passes_if : (S : List Setting) (at : ℕ) (n : Node) → node_fits S n ≡ true → NoneHolds (setting_checks S at n)
+passes_if S at (Constant b) h = (refl, (refl, tt))
+passes_if S at (Atomic a) h = let p = and_parts _ _ h in (lt-leb _ _ (ltb-true _ _ p.0), (not_from_true _ p.1, tt))
+passes_if S at Not h = (refl, (refl, tt))
+passes_if S at (Join k) h = (refl, (refl, tt))
 
--- a node that passes the checks is the one that was checked
-same_checked : (S : List Setting) (at : ℕ) (n : Node) → OfGiven (λ m. m ≡ n) (unless (setting_checks S at n) (given n))
-same_checked S at n =
-    let P : Answer Node → Type 0 = OfGiven (λ m. m ≡ n) in
-    cond_both (names_undeclared S n) _ _ P (λ _. tt) (λ _. cond_both (names_no_choice S n) _ _ P (λ _. tt) (λ _. refl))
+abbrev Decoded : List ℕ → Node → Type 0
+Decoded bs n = (width n ≤ length bs) × (Bytes bs → bs ≡ command n ++ drop (width n) bs)
 
-abbrev DecodedAs : List ℕ → Answer Node → Type 0
-DecodedAs bs r = OfGiven (λ n. (width n ≤ length bs) × (Bytes bs → bs ≡ command n ++ drop (width n) bs)) r
+decoded_of : (at b : ℕ) (bs : List ℕ) (o : Option Node) (n : Node) → Spells (b ∷ bs) o → elim o [ None ↦ refused (fault UnknownCommand at) | Some m ↦ unless (nat_lt (length bs) (operands m) ⇒ fault CutShort at ∷ []) (given m) ] ≡ given n → Decoded (b ∷ bs) n
+decoded_of at b bs None n h e = absurd (given≢refused (sym e))
+decoded_of at b bs (Some m) n h e =
+    let p = passed_checks (nat_lt (length bs) (operands m) ⇒ fault CutShort at ∷ []) e in
+    let same : m ≡ n = cc (p.1) in
+    let long : width m ≤ length (b ∷ bs) = omega (arith, ltb-false _ _ p.0.0) in
+    subst (Decoded (b ∷ bs)) same (long, h long)
 
-decoded_of : (at b : ℕ) (bs : List ℕ) (o : Option Node) → Spells (b ∷ bs) o → DecodedAs (b ∷ bs) (elim o [ None ↦ refused (fault UnknownCommand at) | Some n ↦ unless (ltb (length bs) (operands n) ⇒ fault CutShort at ∷ []) (given n) ])
-decoded_of at b bs None h = tt
-decoded_of at b bs (Some n) h =
-    cond_both (ltb (length bs) (operands n)) _ _ (DecodedAs (b ∷ bs)) (λ _. tt)
-    (λ e. let long : width n ≤ length (b ∷ bs) = omega (arith, ltb-false _ _ e) in (long, h long))
+is_decoded : (at : ℕ) (bs : List ℕ) (n : Node) → decoded at bs ≡ given n → Decoded bs n
+is_decoded at [] n e = absurd (given≢refused (sym e))
+is_decoded at (b ∷ bs) n e = decoded_of at b bs (node_of b bs) n (spells b bs) e
 
-is_decoded : (at : ℕ) (bs : List ℕ) → DecodedAs bs (decoded at bs)
-is_decoded at [] = tt
-is_decoded at (b ∷ bs) = decoded_of at b bs (node_of b bs) (spells b bs)
-
-checked_of : (S : List Setting) (at : ℕ) (bs : List ℕ) (r : Answer Node) (n : Node) → DecodedAs bs r → and_then r (λ m. unless (setting_checks S at m) (given m)) ≡ given n → IsCommand S bs n
-checked_of S at bs (given m) n d e =
-    let fits = subst (OfGiven (λ k. node_fits S k ≡ true)) e (node_checked S at m) in
-    let same = subst (OfGiven (λ k. k ≡ m)) e (same_checked S at m) in
-    let d' = subst (λ k. (width k ≤ length bs) × (Bytes bs → bs ≡ command k ++ drop (width k) bs)) (sym same) d in
-    record { long = d'.0; fits = fits; spelled = d'.1 }
-checked_of S at bs (refused w) n d e = absurd (given≢refused (sym e))
+checked_of : (S : List Setting) (at : ℕ) (bs : List ℕ) (r : Answer Node) (n : Node) → decoded at bs ≡ r → and_then r (λ m. unless (setting_checks S at m) (given m)) ≡ given n → IsCommand S bs n
+checked_of S at bs (given m) n is e =
+    let p = passed_checks (setting_checks S at m) e in
+    let same : m ≡ n = cc (p.1) in
+    let d = is_decoded at bs m is in
+    subst (IsCommand S bs) same (record { long = d.0; fits = fits_if S at m p.0; spelled = d.1 })
+checked_of S at bs (refused w) n is e = absurd (given≢refused (sym e))
 
 pub is_command : (S : List Setting) (at : ℕ) (bs : List ℕ) (n : Node) → commanded S at bs ≡ given n → IsCommand S bs n
-is_command S at bs n e = checked_of S at bs (decoded at bs) n (is_decoded at bs) e
+is_command S at bs n e = checked_of S at bs (decoded at bs) n refl e
 
 -- ---- what is spelled
 
@@ -126,8 +118,8 @@ command_length (Atomic (Range x lo hi)) = refl
 command_length Not = refl
 command_length (Join k) = refl
 
-enough_operands : (at : ℕ) (bs : List ℕ) (n : Node) → operands n ≤ length bs → unless (ltb (length bs) (operands n) ⇒ fault CutShort at ∷ []) (given n) ≡ given n
-enough_operands at bs n h = cond-false (ltb (length bs) (operands n)) _ _ (le-ltb _ _ h)
+enough_operands : (at : ℕ) (bs : List ℕ) (n : Node) → operands n ≤ length bs → unless (nat_lt (length bs) (operands n) ⇒ fault CutShort at ∷ []) (given n) ≡ given n
+enough_operands at bs n h = unless_none (nat_lt (length bs) (operands n) ⇒ fault CutShort at ∷ []) (le-ltb _ _ h, tt)
 
 pub decodes : (at : ℕ) (n : Node) (rest : List ℕ) → decoded at (command n ++ rest) ≡ given n
 decodes at (Constant true) rest = enough_operands at rest (Constant true) (omega arith)
@@ -145,14 +137,5 @@ decodes at (Join Or) rest = enough_operands at rest (Join Or) (omega arith)
 decodes at (Join Implies) rest = enough_operands at rest (Join Implies) (omega arith)
 decodes at (Join Iff) rest = enough_operands at rest (Join Iff) (omega arith)
 
-passes_checks : (S : List Setting) (at : ℕ) (n : Node) → node_fits S n ≡ true → unless (setting_checks S at n) (given n) ≡ given n
-passes_checks S at (Constant b) h = refl
-passes_checks S at (Atomic a) h =
-    let p = and_parts _ _ h in
-    cond-false (leb (length S) (named a)) _ _ (lt-leb _ _ (ltb-true _ _ p.0))
-    ∙ cond-false (not (choosable (setting S (named a)) a)) _ _ (not_from_true _ p.1)
-passes_checks S at Not h = refl
-passes_checks S at (Join k) h = refl
-
 pub commands : (S : List Setting) (at : ℕ) (n : Node) (rest : List ℕ) → node_fits S n ≡ true → commanded S at (command n ++ rest) ≡ given n
-commands S at n rest h = ap (λ r. and_then r (λ m. unless (setting_checks S at m) (given m))) (decodes at n rest) ∙ passes_checks S at n h
+commands S at n rest h = ap (λ r. and_then r (λ m. unless (setting_checks S at m) (given m))) (decodes at n rest) ∙ unless_none (setting_checks S at n) (passes_if S at n h)

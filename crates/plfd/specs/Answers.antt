@@ -1,5 +1,5 @@
 -- What a call answers: something that is given, or a refusal by its number.
-use Rattle.std.specs.Prelude.{ℕ, Bool, true, false, cond, List, [], ◌∷◌}
+use Rattle.std.specs.Prelude.{ℕ, Bool, true, false, if◌then◌else◌, List, [], ◌∷◌}
 
 -- the reason of a refusal is a number; some name an offset or a setting besides
 pub data Reason : Type 0 where
@@ -28,4 +28,4 @@ pub data Check : Type 0 where
 -- the first check that holds refuses; where none holds, the answer stands
 abbrev pub unless : {A : Type 0} → List Check → Answer A → Answer A
 unless [] r = r
-unless (b ⇒ w ∷ cs) r = cond b (refused w) (unless cs r)
+unless (b ⇒ w ∷ cs) r = if b then refused w else unless cs r

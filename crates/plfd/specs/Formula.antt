@@ -1,5 +1,6 @@
 -- Formulas over settings: what they are, when they are true, where they are well formed.
 use Rattle.std.specs.Prelude.{◌≡◌, ℕ, ◌+◌, ◌<◌, Bool, true, not, ◌&&◌, ◌||◌, List, [], ◌∷◌, length, ◌==◌, nat_le, nat_lt}
+use Rattle.std.specs.List.{list_all}
 use Rattle.std.specs.Bool.{beq}
 use Rattle.plfd.specs.declared.settings.Setting.{Setting}
 use Rattle.plfd.specs.declared.nodes.Atom.{Atom}
@@ -83,5 +84,4 @@ well_formed S (join k f g) = well_formed S f && well_formed S g
 
 -- and every formula of several
 abbrev pub all_formed : List Setting → List Formula → Bool
-all_formed S [] = true
-all_formed S (f ∷ fs) = well_formed S f && all_formed S fs
+all_formed S fs = list_all (well_formed S) fs

@@ -3,6 +3,7 @@ pub mod Settings
 pub mod Formula
 pub mod Code
 pub mod Faults
+pub mod Words
 pub mod Reading
 pub mod Cursor
 pub mod Exact

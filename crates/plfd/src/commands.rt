@@ -18,22 +18,49 @@ impl Setting {
     {
         match atom {
             Atom::Is { choice, .. } => self.has(choice),
-            Atom::Range { lo, hi, .. } => lo <= hi && hi < self.size,
+            Atom::Range { lo, hi, .. } => lo <= hi && self.has(hi),
         }
     }
 }
 
 impl Node {
+    /// The node of the command at the front of the bytes.
+    fn decode(bytes: &[u8]) -> Result<Node, CodeFault>
+        ensures value { (at : ℕ) → told_fault at result ≡ decoded at bytes.now }
+    {
+        // One table of all commands: a `TryFrom<u8>` for the connectives would only move four of its rows elsewhere.
+        let node = match *bytes {
+            [0x01, ..] => Node::Constant(true),
+            [0x02, ..] => Node::Constant(false),
+            [0x03, setting, high, low, ..] => Node::Atomic(Atom::Is {
+                setting,
+                choice: u16::from_be_bytes([high, low]),
+            }),
+            [0x04, setting, lo_high, lo_low, hi_high, hi_low, ..] => Node::Atomic(Atom::Range {
+                setting,
+                lo: u16::from_be_bytes([lo_high, lo_low]),
+                hi: u16::from_be_bytes([hi_high, hi_low]),
+            }),
+            [0x05, ..] => Node::Not,
+            [0x06, ..] => Node::Join(Connective::And),
+            [0x07, ..] => Node::Join(Connective::Or),
+            [0x08, ..] => Node::Join(Connective::Implies),
+            [0x09, ..] => Node::Join(Connective::Iff),
+            [] | [0x03 | 0x04, ..] => return Err(CodeFault::CutShort),
+            [_, ..] => return Err(CodeFault::UnknownCommand),
+        };
+        Ok(node)
+    }
+
     /// Refuses an atom over a setting that is not declared, or that lacks such a choice.
     fn check(self, settings: &[Setting]) -> Result<Node, CodeFault>
         ensures value { (at : ℕ) → told_fault at result ≡ unless (setting_checks settings.now at self) (given self) }
     {
         if let Node::Atomic(atom) = self {
-            let x = atom.setting() as usize;
-            if x >= settings.len() {
-                return Err(CodeFault::UndeclaredSetting);
-            }
-            if !settings[x].offers(atom) {
+            let setting = settings
+                .get(usize::from(atom.setting()))
+                .ok_or(CodeFault::UndeclaredSetting)?;
+            if !setting.offers(atom) {
                 return Err(CodeFault::NoSuchChoice);
             }
         }
@@ -42,51 +69,11 @@ impl Node {
 }
 
 impl Reader<'_> {
-    /// The node of the command ahead, which stays ahead.
-    fn decode(&self) -> Result<Node, CodeFault>
-        ensures value { (at : ℕ) → told_fault at result ≡ decoded at (ahead self.now) }
-    {
-        let left = self.left();
-        if left == 0 {
-            return Err(CodeFault::CutShort);
-        }
-        let node = match self.byte(0) {
-            0x01 => Node::Constant(true),
-            0x02 => Node::Constant(false),
-            0x03 => {
-                if left < 4 {
-                    return Err(CodeFault::CutShort);
-                }
-                Node::Atomic(Atom::Is {
-                    setting: self.byte(1),
-                    choice: self.pair(2),
-                })
-            }
-            0x04 => {
-                if left < 6 {
-                    return Err(CodeFault::CutShort);
-                }
-                Node::Atomic(Atom::Range {
-                    setting: self.byte(1),
-                    lo: self.pair(2),
-                    hi: self.pair(4),
-                })
-            }
-            0x05 => Node::Not,
-            0x06 => Node::Join(Connective::And),
-            0x07 => Node::Join(Connective::Or),
-            0x08 => Node::Join(Connective::Implies),
-            0x09 => Node::Join(Connective::Iff),
-            _ => return Err(CodeFault::UnknownCommand),
-        };
-        Ok(node)
-    }
-
     /// The node of the command ahead, if it is one over these settings.
     fn decode_over(&self, settings: &[Setting]) -> Result<Node, CodeFault>
         ensures answer { (at : ℕ) → told_fault at result ≡ commanded settings.now at (ahead self.now) }
     {
-        self.decode()?.check(settings)
+        Node::decode(self.ahead())?.check(settings)
     }
 
     /// The node of the command ahead, over declared settings. The reader moves behind the command, unless it is refused.
@@ -95,13 +82,10 @@ impl Reader<'_> {
         ensures bytes { self.new.bytes.now ≡ self.old.bytes.now }
         ensures place { self.new.place ≡ self.old.place + passed result }
     {
-        let offset = self.place;
-        match self.decode_over(settings) {
-            Ok(node) => {
-                self.pass(1 + node.operands());
-                Ok(node)
-            }
-            Err(fault) => Err(CodeRefusal { fault, offset }),
-        }
+        let node = self
+            .decode_over(settings)
+            .map_err(|fault| fault.at(self.place))?;
+        self.place += 1 + node.operands();
+        Ok(node)
     }
 }

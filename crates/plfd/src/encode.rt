@@ -1,22 +1,30 @@
 //! The command of a node, byte for byte.
-ghost use Rattle.std.specs.Prelude.{◌≡◌, ◌/◌, ◌%◌, ◌≤◌, [], ◌∷◌, length, take};
+ghost use Rattle.std.specs.Prelude.{◌≡◌, ℕ, ◌≤◌, List, [], ◌∷◌, take};
 ghost use Rattle.plfd.specs.Code.{command, connective_byte};
 
 use crate::nodes::{Atom, Connective, Node};
+use std::marker::Model;
 
-/// The bytes of one command: the first `count` of six, since a command has at most five operands.
+/// The bytes of one command. A contract sees them as a list: the first `count` of six, since a command has at most
+/// five operands. There is no heap here, so they lie in an array.
 #[derive(Drop)]
 pub struct Encoded {
     bytes: [u8; 6],
     count: usize,
-    ghost room: { length bytes ≡ 6 },
-    ghost few: { count ≤ 6 },
+}
+
+impl Model for Encoded {
+    ghost Value = { List ℕ };
+
+    ghost view = { λ command. take command.count command.bytes };
+
+    ghost invariant = { λ command. command.count ≤ 6 };
 }
 
 impl Encoded {
     /// A command without operands.
     fn single(byte: u8) -> Encoded
-        ensures value { take result.count result.bytes ≡ byte ∷ [] }
+        ensures value { result ≡ byte ∷ [] }
     {
         Encoded {
             bytes: [byte, 0, 0, 0, 0, 0],
@@ -26,9 +34,9 @@ impl Encoded {
 
     /// The command's bytes and no more.
     pub fn as_slice(&self) -> &[u8]
-        ensures value { result.now ≡ take self.now.count self.now.bytes }
+        ensures value { result.now ≡ self.now }
     {
-        &self.bytes[0..self.count]
+        &self.bytes[..self.count]
     }
 }
 
@@ -37,45 +45,33 @@ impl Connective {
     fn byte(self) -> u8
         ensures value { result ≡ connective_byte self }
     {
-        match self {
-            Connective::And => 0x06,
-            Connective::Or => 0x07,
-            Connective::Implies => 0x08,
-            Connective::Iff => 0x09,
-        }
+        self as u8
     }
-}
-
-/// The high byte of two.
-fn high(number: u16) -> u8
-    ensures value { result ≡ number / 256 }
-{
-    (number / 256) as u8
-}
-
-/// The low byte of two.
-fn low(number: u16) -> u8
-    ensures value { result ≡ number % 256 }
-{
-    (number % 256) as u8
 }
 
 impl Node {
     /// Its command, operands and all.
     pub fn encode(self) -> Encoded
-        ensures value { take result.count result.bytes ≡ command self }
+        ensures value { result ≡ command self }
     {
         match self {
             Node::Constant(true) => Encoded::single(0x01),
             Node::Constant(false) => Encoded::single(0x02),
-            Node::Atomic(Atom::Is { setting, choice }) => Encoded {
-                bytes: [0x03, setting, high(choice), low(choice), 0, 0],
-                count: 4,
-            },
-            Node::Atomic(Atom::Range { setting, lo, hi }) => Encoded {
-                bytes: [0x04, setting, high(lo), low(lo), high(hi), low(hi)],
-                count: 6,
-            },
+            Node::Atomic(Atom::Is { setting, choice }) => {
+                let [high, low] = choice.to_be_bytes();
+                Encoded {
+                    bytes: [0x03, setting, high, low, 0, 0],
+                    count: 4,
+                }
+            }
+            Node::Atomic(Atom::Range { setting, lo, hi }) => {
+                let [lo_high, lo_low] = lo.to_be_bytes();
+                let [hi_high, hi_low] = hi.to_be_bytes();
+                Encoded {
+                    bytes: [0x04, setting, lo_high, lo_low, hi_high, hi_low],
+                    count: 6,
+                }
+            }
             Node::Not => Encoded::single(0x05),
             Node::Join(connective) => Encoded::single(connective.byte()),
         }

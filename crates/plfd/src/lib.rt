@@ -2,7 +2,6 @@
 #![tactic(auto)]
 
 pub mod commands;
-pub mod cursor;
 pub mod encode;
 pub mod exact;
 pub mod faults;

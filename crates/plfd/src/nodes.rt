@@ -4,7 +4,7 @@ ghost use Rattle.plfd.specs.Formula.{named, covers, joined};
 ghost use Rattle.plfd.specs.Code.{operands, arity};
 
 /// What a rule says of one setting.
-#[derive(Clone, Copy)]
+#[derive(Clone, Copy, Debug, PartialEq, Eq, Hash)]
 pub enum Atom {
     /// The setting has this choice.
     Is { setting: u8, choice: u16 },
@@ -12,17 +12,17 @@ pub enum Atom {
     Range { setting: u8, lo: u16, hi: u16 },
 }
 
-/// What joins a left and a right side.
-#[derive(Clone, Copy)]
+/// What joins a left and a right side; each has its command byte.
+#[derive(Clone, Copy, Debug, PartialEq, Eq, Hash)]
 pub enum Connective {
-    And,
-    Or,
-    Implies,
-    Iff,
+    And = 0x06,
+    Or = 0x07,
+    Implies = 0x08,
+    Iff = 0x09,
 }
 
 /// A node of a formula, which takes its sides from the stack.
-#[derive(Clone, Copy)]
+#[derive(Clone, Copy, Debug, PartialEq, Eq, Hash)]
 pub enum Node {
     Constant(bool),
     Atomic(Atom),
@@ -36,8 +36,7 @@ impl Atom {
         ensures value { result ≡ named self }
     {
         match self {
-            Atom::Is { setting, .. } => setting,
-            Atom::Range { setting, .. } => setting,
+            Atom::Is { setting, .. } | Atom::Range { setting, .. } => setting,
         }
     }
 
@@ -47,7 +46,7 @@ impl Atom {
     {
         match self {
             Atom::Is { choice, .. } => chosen == choice,
-            Atom::Range { lo, hi, .. } => lo <= chosen && chosen <= hi,
+            Atom::Range { lo, hi, .. } => (lo..=hi).contains(&chosen),
         }
     }
 }
@@ -72,8 +71,7 @@ impl Node {
         ensures value { result ≡ arity self }
     {
         match self {
-            Node::Constant(_) => 0,
-            Node::Atomic(_) => 0,
+            Node::Constant(_) | Node::Atomic(_) => 0,
             Node::Not => 1,
             Node::Join(_) => 2,
         }

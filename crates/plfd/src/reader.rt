@@ -19,10 +19,26 @@ impl<'a> Reader<'a> {
 }
 
 impl Reader<'_> {
+    ghost use Rattle.plfd.specs.Cursor.{ahead};
+
     /// The offset of the next byte.
     pub fn place(&self) -> usize
         ensures value { result ≡ self.now.place }
     {
         self.place
+    }
+
+    /// The bytes that are still ahead.
+    pub fn ahead(&self) -> &[u8]
+        ensures value { result.now ≡ ahead self.now }
+    {
+        &self.bytes[self.place..]
+    }
+
+    /// How many bytes are ahead.
+    pub fn left(&self) -> usize
+        ensures value { result ≡ length (ahead self.now) }
+    {
+        self.ahead().len()
     }
 }

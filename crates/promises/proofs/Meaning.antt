@@ -1,28 +1,26 @@
 -- What laying gives is what it means.
-use Rattle.std.proofs.Common.{◌≡◌, ℕ, ◌≤◌, true, leb, List, length, sym, refl, ap, ◌∙◌, ⊎_elim}
+use Rattle.std.proofs.Common.{◌≡◌, ℕ, ◌≤◌, true, List, length, sym, refl, ap, ◌∙◌}
 use Rattle.std.proofs.lemmas.List.{get_or_push}
-use Rattle.std.proofs.lemmas.Bool.{true≢false, false≢true, cond-true, cond-false, le-leb, lt-leb, cases_lt}
+use Rattle.std.proofs.lemmas.Bool.{true≢false, false≢true, lt-leb, leb-false}
 use Rattle.plfd.specs.Answers.{Answer, given, refused, accepted, and_then}
 use Rattle.plfd.specs.Formula.{Formula, constant, total}
 use Rattle.plfd.specs.Code.{code as formula_code}
 use Rattle.plfd.specs.Reading.{node_limit}
 use Rattle.plfd.specs.Exact.{Bytes}
-use Rattle.plfd.proofs.Checks.{given≢refused}
+use Rattle.plfd.proofs.Checks.{given≢refused, unless_none, passed_checks}
 use Rattle.plfd.proofs.Exactness.{reading_is_exact}
 use Rattle.promises.specs.Page.{Page, with_rule}
 use Rattle.promises.specs.Writing.{code_of}
-use Rattle.promises.specs.Laying.{rule_limit, laid, page_after, LayGives, CanStand, LayMeans}
+use Rattle.promises.specs.Laying.{lay_checks, laid, page_after, LayGives, CanStand, LayMeans}
 
 module _ (p : Page) (code : List ℕ) (B : Bytes code) (few : total p.rules ≤ node_limit) where
   laid_if : (f : Formula) → CanStand p code f → laid p code ≡ given f
-  laid_if f can = cond-false (leb rule_limit (length p.rules)) _ _ (lt-leb _ _ can.room) ∙ (reading_is_exact p.settings (total p.rules) code f few B).1 can.says
+  laid_if f can = unless_none (lay_checks p) (lt-leb _ _ can.room, tt) ∙ (reading_is_exact p.settings (total p.rules) code f few B).1 can.says
 
   can_if : (f : Formula) → laid p code ≡ given f → CanStand p code f
   can_if f e =
-      ⊎_elim
-      (λ room. record { room = room; says = (reading_is_exact p.settings (total p.rules) code f few B).0 (sym (cond-false (leb rule_limit (length p.rules)) _ _ (lt-leb _ _ room)) ∙ e) })
-      (λ full. absurd (given≢refused (sym e ∙ cond-true (leb rule_limit (length p.rules)) _ _ (le-leb _ _ full))))
-      (cases_lt (length p.rules) rule_limit)
+      let passed = passed_checks (lay_checks p) e in
+      record { room = leb-false _ _ passed.0.0; says = (reading_is_exact p.settings (total p.rules) code f few B).0 passed.1 }
 
   meant : {p' : Page} {r : Answer ℕ} (a : Answer Formula) → laid p code ≡ a → r ≡ and_then a (λ f. given (length p.rules)) → p' ≡ page_after p a → LayMeans p code r p'
   meant {p'} {r} (given f) is answer page = record {

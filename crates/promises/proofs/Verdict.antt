@@ -1,11 +1,11 @@
 -- A row is judged yes exactly where it fits.
-use Rattle.std.proofs.Common.{◌≡◌, ℕ, zero, suc, ◌+◌, ◌<◌, ◌≤◌, Bool, true, ltb, List, [], ◌∷◌, length, sym, refl, ap, ◌∙◌, ⊎_elim, arith}
-use Rattle.std.proofs.lemmas.Bool.{cond-true, cond-false, and_parts, and_from, cases_Bool, cases_lt, lt-ltb, le-ltb}
+use Rattle.std.proofs.Common.{◌≡◌, ℕ, zero, suc, ◌+◌, ◌<◌, ◌≤◌, Bool, true, List, [], ◌∷◌, length, sym, refl, ap, ◌∙◌, ⊎_elim, arith}
+use Rattle.std.proofs.lemmas.Bool.{cond-true, cond-false, and_parts, and_from, cases_Bool, ltb-false, le-ltb}
 use Rattle.plfd.specs.declared.settings.Setting.{Setting}
 use Rattle.plfd.specs.Answers.{Answer, given, unless}
 use Rattle.plfd.specs.Settings.{domain, setting}
 use Rattle.plfd.specs.Formula.{Formula, Assignment, truth, Keeps}
-use Rattle.plfd.proofs.Checks.{given≢refused}
+use Rattle.plfd.proofs.Checks.{unless_none, passed_checks}
 use Rattle.promises.specs.Page.{Page}
 use Rattle.promises.specs.Judging.{chosen, all_true, lowest_outside, judge_checks, Fits, JudgeGives}
 
@@ -21,9 +21,13 @@ true_if σ (f ∷ fs) h = and_from _ _ h.0 (true_if σ fs h.1)
 abbrev From : List Setting → Assignment → ℕ → Type 0
 From S σ x = (k : ℕ) → k < length S → domain (setting S k) (σ (x + k)) ≡ true
 
+-- the choice at one place, however the place is counted
+at_place : (s : Setting) (σ : Assignment) (a b : ℕ) → a ≡ b → domain s (σ a) ≡ domain s (σ b)
+at_place s σ a b e = ap (λ y. domain s (σ y)) e
+
 from_cons : (s : Setting) (S : List Setting) (σ : Assignment) (x : ℕ) → domain s (σ x) ≡ true → From S σ (x + 1) → From (s ∷ S) σ x
-from_cons s S σ x here on zero l = let e : x + 0 ≡ x = omega arith in ap (λ y. domain s (σ y)) e ∙ here
-from_cons s S σ x here on (suc k) l = let e : x + suc k ≡ x + 1 + k = omega arith in ap (λ y. domain (setting S k) (σ y)) e ∙ on k (omega arith)
+from_cons s S σ x here on zero l = at_place s σ (x + 0) x (omega arith) ∙ here
+from_cons s S σ x here on (suc k) l = at_place (setting S k) σ (x + suc k) (x + 1 + k) (omega arith) ∙ on k (omega arith)
 
 within_if : (S : List Setting) (σ : Assignment) (x : ℕ) → x + length S ≤ lowest_outside S σ x → From S σ x
 within_if [] σ x h = λ k l. absurd (omega arith)
@@ -36,9 +40,8 @@ within_if (s ∷ S) σ x h =
 outside_if : (S : List Setting) (σ : Assignment) (x : ℕ) → From S σ x → lowest_outside S σ x ≡ x + length S
 outside_if [] σ x h = omega arith
 outside_if (s ∷ S) σ x h =
-    let e : x + 0 ≡ x = omega arith in
-    cond-true (domain s (σ x)) _ _ (ap (λ y. domain s (σ y)) (sym e) ∙ h 0 (omega arith))
-    ∙ outside_if S σ (x + 1) (λ k l. let e' : x + 1 + k ≡ x + suc k = omega arith in ap (λ y. domain (setting S k) (σ y)) e' ∙ h (suc k) (omega arith))
+    cond-true (domain s (σ x)) _ _ (at_place s σ x (x + 0) (omega arith) ∙ h 0 (omega arith))
+    ∙ outside_if S σ (x + 1) (λ k l. at_place (setting S k) σ (x + 1 + k) (x + suc k) (omega arith) ∙ h (suc k) (omega arith))
     ∙ omega arith
 
 module _ (p : Page) (row : List ℕ) where
@@ -50,29 +53,20 @@ module _ (p : Page) (row : List ℕ) where
 
   fits_if : judged ≡ given true → Fits p row
   fits_if e =
-      ⊎_elim
-      (λ short. absurd (given≢refused (sym e ∙ cond-true (ltb (length row) (length p.settings)) _ _ (lt-ltb _ _ short))))
-      (λ long.
-      let e' = sym (cond-false (ltb (length row) (length p.settings)) _ _ (le-ltb _ _ long)) ∙ e in
-      ⊎_elim
-      (λ low. absurd (given≢refused (sym e' ∙ cond-true (ltb outside (length p.settings)) _ _ (lt-ltb _ _ low))))
-      (λ none.
-      let e'' = sym (cond-false (ltb outside (length p.settings)) _ _ (le-ltb _ _ none)) ∙ e' in
-      let yes_all : all_true (chosen row) p.rules ≡ true = cc in
+      let passed = passed_checks (judge_checks p row) e in
+      let yes_all : all_true (chosen row) p.rules ≡ true = cc (passed.1) in
+      let none : length p.settings ≤ outside = ltb-false _ _ passed.0.1.0 in
       let each = within_if p.settings (chosen row) 0 (omega (arith, none)) in
       record {
-        long = long;
-        within = λ x l. let z : 0 + x ≡ x = omega arith in ap (λ y. domain (setting p.settings x) (chosen row y)) (sym z) ∙ each x l;
+        long = ltb-false _ _ passed.0.0;
+        within = λ x l. at_place (setting p.settings x) (chosen row) x (0 + x) (omega arith) ∙ each x l;
         keeps = keeps_if (chosen row) p.rules yes_all;
-      })
-      (cases_lt outside (length p.settings)))
-      (cases_lt (length row) (length p.settings))
+      }
 
   yes_if : Fits p row → judged ≡ given true
   yes_if f =
-      let all = outside_if p.settings (chosen row) 0 (λ k l. let z : 0 + k ≡ k = omega arith in ap (λ y. domain (setting p.settings k) (chosen row y)) z ∙ f.within k l) in
-      cond-false (ltb (length row) (length p.settings)) _ _ (le-ltb _ _ f.long)
-      ∙ cond-false (ltb outside (length p.settings)) _ _ (le-ltb _ _ (omega (arith, all)))
+      let all = outside_if p.settings (chosen row) 0 (λ x l. at_place (setting p.settings x) (chosen row) (0 + x) x (omega arith) ∙ f.within x l) in
+      unless_none (judge_checks p row) (le-ltb _ _ f.long, (le-ltb _ _ (omega (arith, all)), tt))
       ∙ ap given (true_if (chosen row) p.rules f.keeps)
 
   pub judge_gives : (r : Answer Bool) → r ≡ judged → JudgeGives p row r

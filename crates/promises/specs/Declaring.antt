@@ -1,5 +1,5 @@
 -- What declaring a setting gives.
-use Rattle.std.specs.Prelude.{◌≡◌, ℕ, cond, List, [], ◌∷◌, length, nat_eq, nat_le, nat_lt}
+use Rattle.std.specs.Prelude.{◌≡◌, ℕ, if◌then◌else◌, List, [], ◌∷◌, length, nat_eq, nat_le, nat_lt}
 use Rattle.plfd.specs.Answers.{Answer, given, accepted, Check, ◌⇒◌, unless}
 use Rattle.promises.specs.declared.refusals.Refusal.TheVariants.{SizeZero, SettingsFull, SuppositionOpen}
 use Rattle.promises.specs.Refusals.{reason_of}
@@ -19,4 +19,4 @@ declare_checks p size =
 -- the setting's number, counted from 0; the page has it as its last setting
 pub record DeclareGives (p : Page) (size : ℕ) (r : Answer ℕ) (p' : Page) : Type 0 where
   pub answer : r ≡ unless (declare_checks p size) (given (length p.settings))
-  pub page : p' ≡ cond (accepted r) (with_setting p (record { size = size })) p
+  pub page : p' ≡ (if accepted r then with_setting p (record { size = size }) else p)

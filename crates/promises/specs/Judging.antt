@@ -1,5 +1,6 @@
 -- What judging a row of choices gives.
-use Rattle.std.specs.Prelude.{◌≡◌, ℕ, ◌+◌, ◌≤◌, Bool, true, cond, ◌&&◌, ◌↔◌, List, [], ◌∷◌, length, nat_lt, slice_index}
+use Rattle.std.specs.Prelude.{◌≡◌, ℕ, ◌+◌, ◌≤◌, Bool, true, if◌then◌else◌, ◌↔◌, List, [], ◌∷◌, length, nat_lt, slice_index}
+use Rattle.std.specs.List.{list_all}
 use Rattle.plfd.specs.declared.settings.Setting.{Setting}
 use Rattle.plfd.specs.Answers.{Answer, given, Check, ◌⇒◌, unless}
 use Rattle.plfd.specs.Settings.{domain}
@@ -14,13 +15,12 @@ chosen row x = slice_index row x
 
 -- whether every formula is true
 abbrev pub all_true : Assignment → List Formula → Bool
-all_true σ [] = true
-all_true σ (f ∷ fs) = truth σ f && all_true σ fs
+all_true σ fs = list_all (truth σ) fs
 
 -- of settings counted from x, the lowest whose choice in the assignment is none of its choices; behind the last, if there is none
 abbrev pub lowest_outside : List Setting → Assignment → ℕ → ℕ
 lowest_outside [] σ x = x
-lowest_outside (s ∷ S) σ x = cond (domain s (σ x)) (lowest_outside S σ (x + 1)) x
+lowest_outside (s ∷ S) σ x = if domain s (σ x) then lowest_outside S σ (x + 1) else x
 
 -- why a row is not judged
 abbrev pub judge_checks : Page → List ℕ → List Check

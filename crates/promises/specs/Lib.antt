@@ -1,4 +1,5 @@
 pub mod Refusals
+pub mod Words
 pub mod Page
 pub mod Declaring
 pub mod Writing

@@ -1,5 +1,5 @@
 -- What writing out a rule gives.
-use Rattle.std.specs.Prelude.{◌≡◌, ℕ, true, cond, List, [], ◌∷◌, ◌++◌, length, drop, nat_le, nat_lt, slice_index_or}
+use Rattle.std.specs.Prelude.{◌≡◌, ℕ, true, if◌then◌else◌, List, [], ◌∷◌, ◌++◌, length, drop, nat_le, nat_lt, slice_index_or}
 use Rattle.plfd.specs.Answers.{Answer, given, accepted, Check, ◌⇒◌, unless}
 use Rattle.plfd.specs.Formula.{constant}
 use Rattle.plfd.specs.Code.{code}
@@ -20,4 +20,4 @@ write_checks p k buffer =
 -- the code's length; the code stands at the buffer's start, and later bytes are as they were
 pub record WriteOutGives (p : Page) (k : ℕ) (buffer : List ℕ) (r : Answer ℕ) (buffer' : List ℕ) : Type 0 where
   pub answer : r ≡ unless (write_checks p k buffer) (given (length (code_of p k)))
-  pub bytes : buffer' ≡ cond (accepted r) (code_of p k ++ drop (length (code_of p k)) buffer) buffer
+  pub bytes : buffer' ≡ (if accepted r then code_of p k ++ drop (length (code_of p k)) buffer else buffer)

@@ -1,5 +1,5 @@
 -- A closed tableau leaves no assignment; and the tape of a none is a closed tableau, in bytes.
-use Rattle.std.proofs.Common.{◌≡◌, ℕ, zero, suc, ◌/◌, ◌%◌, ◌<◌, ◌≤◌, Bool, true, leb, List, [], ◌∷◌, ◌++◌, map, length, get_or, sym, refl, ap, ◌∙◌, subst, ⊎_elim, append_assoc, append-nil, arith}
+use Rattle.std.proofs.Common.{◌≡◌, ℕ, zero, suc, ◌/◌, ◌%◌, ◌<◌, ◌≤◌, Bool, true, nat_le, List, [], ◌∷◌, ◌++◌, map, length, slice_index_or, sym, refl, ap, ◌∙◌, subst, ⊎_elim, append_assoc, append-nil, arith}
 use Rattle.std.proofs.lemmas.Bool.{false≢true, and_from, and_parts, le-leb, leb-true}
 use Rattle.plfd.specs.declared.settings.Setting.{Setting}
 use Rattle.plfd.specs.declared.nodes.Atom.{Atom}
@@ -10,14 +10,15 @@ use Rattle.tableau.specs.declared.commands.Move.{Move}
 use Rattle.tableau.specs.declared.commands.Move.TheVariants.{Append, Split, Narrow, Clash}
 use Rattle.tableau.specs.declared.commands.Command.{Command}
 use Rattle.tableau.specs.declared.commands.Command.TheVariants.{Expand, Empty}
-use Rattle.tableau.specs.Asks.{Entry, ◌is◌, Asks, nothing, clash, narrow, append, split}
+use Rattle.tableau.specs.Asks.{◌is◌, Asks, nothing, clash, narrow, append, split}
 use Rattle.tableau.specs.Branches.{Branch, branch_limit, fits, start, asked, cut, expand}
 use Rattle.tableau.specs.Tape.{move_byte, spelled, tape}
 use Rattle.tableau.specs.Walk.{Position, ◌at◌, Step, step, turn, Outcome, found, none, spent, after, walk_on, walk, is_none, tape_of}
 use Rattle.tableau.specs.Tableau.{Closes, by_clash, by_empty, by_append, by_narrow, by_split, Closed}
 use Rattle.tableau.specs.Pages.{Picks}
 use Rattle.tableau.specs.Laws.{NoneIsClosed, ClosedIsSound, Each}
-use Rattle.tableau.proofs.Means.{True, AllTrue, Met, met, true_join, keeps_true}
+use Rattle.tableau.proofs.Every.{every_append, every_at}
+use Rattle.tableau.proofs.Means.{True, AllTrue, Met, met, keeps_true}
 use Rattle.tableau.proofs.Sets.{empty_lacks, picks_narrowed}
 use Rattle.tableau.proofs.Entries.{OverAll, OverAsks, over_asked}
 use Rattle.tableau.proofs.Walking.{walking, narrowing}
@@ -26,24 +27,19 @@ use Rattle.tableau.proofs.Models.{Declared, Live, start_live, live_turn}
 
 -- ---- a closed tableau is sound
 
-true_at : (σ : Assignment) (es : List Entry) (k : ℕ) → AllTrue σ es → True σ (get_or es k (constant true is true))
-true_at σ [] k h = refl
-true_at σ (e ∷ es) zero h = h.0
-true_at σ (e ∷ es) (suc k) h = true_at σ es k h.1
-
 met_at : (σ : Assignment) (b : Branch) (k : ℕ) (a : Asks) → AllTrue σ b.entries → asked b k ≡ a → Met σ a
-met_at σ b k a h e = subst (Met σ) e (met σ (get_or b.entries k (constant true is true)) (true_at σ b.entries k h))
+met_at σ b k a h e = subst (Met σ) e (met σ (slice_index_or b.entries k (constant true is true)) (every_at (True σ) b.entries k (constant true is true) refl h))
 
 module _ (S : List Setting) (σ : Assignment) (w : Within S σ) where
   leaves_none : {b : Branch} {t : List ℕ} → Closes S b t → Picks S b.sets σ → AllTrue σ b.entries → ⊥
   leaves_none (by_clash {b = b} k e) p h = met_at σ b k clash h e
   leaves_none (by_empty {b = b} x l e) p h = empty_lacks S b.sets x e (σ x) (w x l) (p x l)
-  leaves_none (by_append {b = b} k es e f c) p h = leaves_none c p (true_join σ b.entries es h (met_at σ b k (append es) h e))
+  leaves_none (by_append {b = b} k es e f c) p h = leaves_none c p (every_append (True σ) b.entries es h (met_at σ b k (append es) h e))
   leaves_none (by_narrow {b = b} k a s e f c) p h = leaves_none c (picks_narrowed a s b.sets S σ p (met_at σ b k (narrow a s) h e)) h
   leaves_none (by_split {b = b} k l r e f g c d) p h =
       ⊎_elim
-      (λ (m : AllTrue σ l). leaves_none c p (true_join σ b.entries l h m))
-      (λ (m : AllTrue σ r). leaves_none d p (true_join σ b.entries r h m))
+      (λ (m : AllTrue σ l). leaves_none c p (every_append (True σ) b.entries l h m))
+      (λ (m : AllTrue σ r). leaves_none d p (every_append (True σ) b.entries r h m))
       (met_at σ b k (split l r) h e)
 
 pub closed_is_sound : ClosedIsSound
@@ -63,7 +59,7 @@ module _ (S : List Setting) where
 
     cut_fits : (a : Atom) (s : Bool) → fits (cut a s b) ≡ true
     cut_fits a s =
-        let p : (leb (length b.entries) branch_limit ≡ true) × (leb b.narrowings branch_limit ≡ true) = and_parts _ _ (light_fits b c g) in
+        let p : (nat_le (length b.entries) branch_limit ≡ true) × (nat_le b.narrowings branch_limit ≡ true) = and_parts _ _ (light_fits b c g) in
         let few : suc b.narrowings ≤ branch_limit = omega (arith, g.narrow_once, leb-true (length b.entries) branch_limit p.0) in
         and_from _ _ p.0 (le-leb _ _ few)
 

@@ -1,5 +1,5 @@
 -- A walk ends where its outcome says.
-use Rattle.std.proofs.Common.{◌≡◌, ℕ, suc, ◌<◌, ltb, List, [], ◌∷◌, length, sym, refl, ap, ◌∙◌, subst}
+use Rattle.std.proofs.Common.{◌≡◌, ℕ, suc, ◌<◌, nat_lt, List, [], ◌∷◌, length, sym, refl, ap, ◌∙◌, subst}
 use Rattle.std.proofs.lemmas.Bool.{cond-true, lt-ltb}
 use Rattle.plfd.specs.declared.settings.Setting.{Setting}
 use Rattle.tableau.specs.declared.commands.Command.{Command}
@@ -10,7 +10,7 @@ use Rattle.tableau.proofs.Walking.{walking}
 
 module _ (S : List Setting) where
   advanced_is : (b : Branch) (c : ℕ) (ps : List Position) → c < length b.entries → advanced S (b at c ∷ ps) ≡ (turn S b c ps).next
-  advanced_is b c ps l = cond-true (ltb c (length b.entries)) _ _ (lt-ltb _ _ l)
+  advanced_is b c ps l = cond-true (nat_lt c (length b.entries)) _ _ (lt-ltb _ _ l)
 
   abbrev Ends : List Position → Outcome → Type 0
   Ends ps o = EndsAt o (reached S (steps o) ps)

@@ -1,5 +1,5 @@
 -- What an entry asks for names no further setting, and has fewer nodes than the entry.
-use Rattle.std.proofs.Common.{◌≡◌, ℕ, zero, suc, ◌+◌, ◌<◌, ◌≤◌, Bool, true, false, List, [], ◌∷◌, ◌++◌, map, length, get_or, refl, ap, ⊎_elim, arith}
+use Rattle.std.proofs.Common.{◌≡◌, ℕ, ◌+◌, ◌<◌, ◌≤◌, Bool, true, false, List, [], ◌∷◌, ◌++◌, map, length, slice_index_or, refl, ap, ⊎_elim, arith}
 use Rattle.std.proofs.lemmas.Bool.{false≢true, eqb-true, eq-eqb, ltb-true, and_parts, or_cases, or_left, or_right}
 use Rattle.plfd.specs.declared.settings.Setting.{Setting}
 use Rattle.plfd.specs.declared.nodes.Connective.{Connective}
@@ -9,6 +9,7 @@ use Rattle.plfd.proofs.Stacks.{some_nodes}
 use Rattle.tableau.specs.Asks.{Entry, ◌is◌, Asks, nothing, clash, narrow, append, split, join_asks, asks}
 use Rattle.tableau.specs.Branches.{Branch, asked}
 use Rattle.tableau.specs.Pages.{names, named_by}
+use Rattle.tableau.proofs.Every.{Every, every_at}
 
 -- the shapes of what a connective asks for
 module _ (P : Asks → Type 0) (l r : Formula)
@@ -33,8 +34,7 @@ module _ (N : ℕ → Type 0) where
   Over (f is s) = (x : ℕ) → names x f ≡ true → N x
 
   abbrev pub OverAll : List Entry → Type 0
-  OverAll [] = Unit {0}
-  OverAll (e ∷ es) = Over e × OverAll es
+  OverAll es = Every Over es
 
   abbrev pub OverAsks : Asks → Type 0
   OverAsks nothing = Unit {0}
@@ -62,17 +62,8 @@ module _ (N : ℕ → Type 0) where
   over_asks (negation f is s) h = (h, tt)
   over_asks (join k l r is s) h = over_join k s l r h
 
-  over_at : (es : List Entry) (k : ℕ) → OverAll es → Over (get_or es k (constant true is true))
-  over_at [] k h = λ x e. absurd (false≢true e)
-  over_at (e ∷ es) zero h = h.0
-  over_at (e ∷ es) (suc k) h = over_at es k h.1
-
   pub over_asked : (b : Branch) (k : ℕ) → OverAll b.entries → OverAsks (asked b k)
-  over_asked b k h = over_asks (get_or b.entries k (constant true is true)) (over_at b.entries k h)
-
-  pub over_append : (xs ys : List Entry) → OverAll xs → OverAll ys → OverAll (xs ++ ys)
-  over_append [] ys h k = k
-  over_append (x ∷ xs) ys h k = (h.0, over_append xs ys h.1 k)
+  over_asked b k h = over_asks (slice_index_or b.entries k (constant true is true)) (every_at Over b.entries k (constant true is true) (λ x e. absurd (false≢true e)) h)
 
   pub over_rules : (rules : List Formula) → ((x : ℕ) → named_by rules x ≡ true → N x) → OverAll (map (λ f. f is true) rules)
   over_rules [] h = tt

@@ -1,5 +1,5 @@
 -- The examination accepts exactly the closed tableaux, and counts their commands.
-use Rattle.std.proofs.Common.{◌≡◌, ℕ, zero, suc, ◌+◌, ◌<◌, ◌≤◌, true, false, eqb, List, [], ◌∷◌, ◌++◌, length, get_or, drop, Some, None, Option, sym, refl, ap, ◌∙◌, subst, ⊎_elim, append_assoc, append-nil, arith}
+use Rattle.std.proofs.Common.{◌≡◌, ℕ, zero, suc, ◌+◌, ◌<◌, ◌≤◌, true, false, ◌==◌, List, [], ◌∷◌, ◌++◌, length, slice_index, drop, Some, None, Option, sym, refl, ap, ◌∙◌, subst, ⊎_elim, append_assoc, append-nil, arith}
 use Rattle.std.proofs.lemmas.List.{length-drop, get_or-drop, get_or_past}
 use Rattle.std.proofs.lemmas.Bool.{false≢true, eqb-true, leb-false, lt-leb, le-ltb, cases_lt, cond_both, and_parts, and_from, not-false, not_from_true, ltb-false, cond-false}
 use Rattle.plfd.specs.declared.settings.Setting.{Setting}
@@ -39,7 +39,7 @@ same_move d m e = let h = sym (command_moves d []) ∙ ap (λ byte. command_of b
 due_taken : (a : Asks) (m : Move) → takes a m ≡ true → due a ≡ Some m
 due_taken a m h = go (due a) h
   where
-    go : (o : Option Move) → elim o [ None ↦ false | Some d ↦ eqb (move_byte d) (move_byte m) ] ≡ true → o ≡ Some m
+    go : (o : Option Move) → elim o [ None ↦ false | Some d ↦ move_byte d == move_byte m ] ≡ true → o ≡ Some m
     go None h = absurd (false≢true h)
     go (Some d) h = ap Some (same_move d m (eqb-true _ _ h))
 
@@ -47,23 +47,23 @@ due_taken a m h = go (due a) h
 abbrev Spells : ℕ → List ℕ → Option Command → Type 0
 Spells byte bs None = Unit {0}
 Spells byte bs (Some (Expand m k)) = (byte ≡ move_byte m) × (k ≡ pair bs 0)
-Spells byte bs (Some (Empty x)) = (byte ≡ 0x24) × (x ≡ get_or bs 0 0)
+Spells byte bs (Some (Empty x)) = (byte ≡ 0x24) × (x ≡ slice_index bs 0)
 
 spells : (byte : ℕ) (bs : List ℕ) → Spells byte bs (command_of byte bs)
 spells byte bs =
-    cond_both (eqb byte 0x20) _ _ (Spells byte bs) (λ e. (eqb-true _ _ e, refl))
-    (λ _. cond_both (eqb byte 0x21) _ _ (Spells byte bs) (λ e. (eqb-true _ _ e, refl))
-    (λ _. cond_both (eqb byte 0x22) _ _ (Spells byte bs) (λ e. (eqb-true _ _ e, refl))
-    (λ _. cond_both (eqb byte 0x23) _ _ (Spells byte bs) (λ e. (eqb-true _ _ e, refl))
-    (λ _. cond_both (eqb byte 0x24) _ _ (Spells byte bs) (λ e. (eqb-true _ _ e, refl)) (λ _. tt)))))
+    cond_both (byte == 0x20) _ _ (Spells byte bs) (λ e. (eqb-true _ _ e, refl))
+    (λ _. cond_both (byte == 0x21) _ _ (Spells byte bs) (λ e. (eqb-true _ _ e, refl))
+    (λ _. cond_both (byte == 0x22) _ _ (Spells byte bs) (λ e. (eqb-true _ _ e, refl))
+    (λ _. cond_both (byte == 0x23) _ _ (Spells byte bs) (λ e. (eqb-true _ _ e, refl))
+    (λ _. cond_both (byte == 0x24) _ _ (Spells byte bs) (λ e. (eqb-true _ _ e, refl)) (λ _. tt)))))
 
 spelled_by : (byte : ℕ) (bs : List ℕ) (m : Command) → Spells byte bs (Some m) → operands m ≤ length bs → Bytes bs → byte ∷ bs ≡ spelled m ++ drop (operands m) bs
 spelled_by byte [] (Expand m k) s l B = absurd (omega arith)
 spelled_by byte (h ∷ []) (Expand m k) s l B = absurd (omega arith)
 spelled_by byte (h ∷ low ∷ bs) (Expand m k) s l B =
     let small : low < 256 = B 1 in
-    let high_is = high_byte h low small ∙ ap (λ n. get_or (two_bytes n) 0 0) (sym s.1) in
-    let low_is = low_byte h low small ∙ ap (λ n. get_or (two_bytes n) 1 0) (sym s.1) in
+    let high_is = high_byte h low small ∙ ap (λ n. slice_index (two_bytes n) 0) (sym s.1) in
+    let low_is = low_byte h low small ∙ ap (λ n. slice_index (two_bytes n) 1) (sym s.1) in
     λ i. s.0 i ∷ high_is i ∷ low_is i ∷ bs
 spelled_by byte [] (Empty x) s l B = absurd (omega arith)
 spelled_by byte (y ∷ bs) (Empty x) s l B = λ i. s.0 i ∷ sym s.1 i ∷ bs

@@ -1,3 +1,4 @@
+pub mod Every
 pub mod Means
 pub mod Sets
 pub mod Entries

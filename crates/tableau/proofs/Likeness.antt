@@ -1,5 +1,5 @@
 -- A walk depends on no setting that the rules do not name.
-use Rattle.std.proofs.Common.{◌≡◌, ℕ, zero, suc, Bool, true, false, cond, ◌&&◌, eqb, ltb, List, [], ◌∷◌, ◌++◌, map, length, get_or, sym, refl, ap, ◌∙◌, subst}
+use Rattle.std.proofs.Common.{◌≡◌, ℕ, zero, suc, Bool, true, false, if◌then◌else◌, ◌&&◌, ◌==◌, nat_lt, List, [], ◌∷◌, ◌++◌, map, length, slice_index_or, sym, refl, ap, ◌∙◌, subst}
 use mathlib.Core.Path.{fun_ext}
 use Rattle.std.proofs.lemmas.Bool.{true≢false, false≢true}
 use Rattle.plfd.specs.declared.settings.Setting.{Setting}
@@ -15,9 +15,10 @@ use Rattle.tableau.specs.Tape.{tape}
 use Rattle.tableau.specs.Walk.{Position, ◌at◌, Step, step, turn, Outcome, found, none, spent, after, walk_on, walk, is_none, is_spent, steps, tape_of, sets_of}
 use Rattle.tableau.specs.Pages.{named_by}
 use Rattle.tableau.specs.Laws.{Alike, SameRulesWalkAlike}
-use Rattle.tableau.proofs.Entries.{OverAll, OverAsks, over_asked, over_append, over_rules}
+use Rattle.tableau.proofs.Every.{every_append}
+use Rattle.tableau.proofs.Entries.{Over, OverAll, OverAsks, over_asked, over_rules}
 
-cond_twin : {A : Type 0} (P : A → A → Type 0) (b b' : Bool) (x y x' y' : A) → b ≡ b' → P x x' → P y y' → P (cond b x y) (cond b' x' y')
+cond_twin : {A : Type 0} (P : A → A → Type 0) (b b' : Bool) (x y x' y' : A) → b ≡ b' → P x x' → P y y' → P (if b then x else y) (if b' then x' else y')
 cond_twin P true true x y x' y' e h k = h
 cond_twin P true false x y x' y' e h k = absurd (true≢false e)
 cond_twin P false true x y x' y' e h k = absurd (false≢true e)
@@ -39,7 +40,7 @@ after_steps ms (found T k) = refl
 after_steps ms (none t k) = refl
 after_steps ms (spent k) = refl
 
-after_tape : (ms : List Command) (o : Outcome) → tape_of (after ms o) ≡ cond (is_none o) (tape ms ++ tape_of o) []
+after_tape : (ms : List Command) (o : Outcome) → tape_of (after ms o) ≡ (if is_none o then tape ms ++ tape_of o else [])
 after_tape ms (found T k) = refl
 after_tape ms (none t k) = refl
 after_tape ms (spent k) = refl
@@ -73,7 +74,7 @@ module _ (S S' : List Setting) (named_here : ℕ → Bool) (same : (x : ℕ) →
 
   agree_narrowed : (a : Atom) (s : Bool) (T T' : Sets) → Agree T T' → Agree (narrowed a s T) (narrowed a s T')
   agree_narrowed a s T T' h x n v =
-      cond_twin (λ (p q : ℕ → Bool). p v ≡ q v) (eqb x (named a)) (eqb x (named a)) _ _ _ _ refl (ap (λ b. b && allows a s v) (h x n v)) (h x n v)
+      cond_twin (λ (p q : ℕ → Bool). p v ≡ q v) (x == named a) (x == named a) _ _ _ _ refl (ap (λ b. b && allows a s v) (h x n v)) (h x n v)
 
   agree_empty : (T T' : Sets) (x : ℕ) → Named x → Agree T T' → empty S T x ≡ empty S' T' x
   agree_empty T T' x n h = ap (λ (s : Setting). none_below s.size (T x)) (same x n) ∙ ap (none_below (setting S' x).size) (fun_ext (h x n))
@@ -83,7 +84,7 @@ module _ (S S' : List Setting) (named_here : ℕ → Bool) (same : (x : ℕ) →
 
   module _ (b b' : Branch) (c : ℕ) (t : Twin b b') where
     grown_twin : (es : List Entry) → OverAll Named es → Twin (grown es b) (grown es b')
-    grown_twin es o = record { entries_same = ap (λ l. l ++ es) t.entries_same; over = over_append Named b.entries es t.over o; agree = t.agree }
+    grown_twin es o = record { entries_same = ap (λ l. l ++ es) t.entries_same; over = every_append (Over Named) b.entries es t.over o; agree = t.agree }
 
     step_twins : (a : Asks) → OverAsks Named a → TwinSteps (step S b c a) (step S' b' c a)
     step_twins nothing o = (refl, one_more b b' (suc c) t none_left)
@@ -99,12 +100,12 @@ module _ (S S' : List Setting) (named_here : ℕ → Bool) (same : (x : ℕ) →
 
     turn_twins : (ps ps' : List Position) → Twins ps ps' → TwinSteps (turn S b c ps) (turn S' b' c ps')
     turn_twins ps ps' h =
-        let asks_same : asked b c ≡ asked b' c = ap (λ es. asks (get_or es c (constant true is true))) t.entries_same in
+        let asks_same : asked b c ≡ asked b' c = ap (λ es. asks (slice_index_or es c (constant true is true))) t.entries_same in
         let s = subst (λ a. TwinSteps (step S b c (asked b c)) (step S' b' c a)) asks_same (step_twins (asked b c) (over_asked Named b c t.over)) in
         (s.0, twins-append s.1 h)
 
-    under : ltb c (length b.entries) ≡ ltb c (length b'.entries)
-    under = ap (λ es. ltb c (length es)) t.entries_same
+    under : nat_lt c (length b.entries) ≡ nat_lt c (length b'.entries)
+    under = ap (λ es. nat_lt c (length es)) t.entries_same
 
     found_alike : Alike named_here (found b.sets 0) (found b'.sets 0)
     found_alike = record { same_none = refl; same_spent = refl; same_steps = refl; same_tape = refl; same_sets = t.agree }
@@ -119,7 +120,7 @@ module _ (S S' : List Setting) (named_here : ℕ → Bool) (same : (x : ℕ) →
     same_none = after_none ms o ∙ h.same_none ∙ sym (after_none ms' o');
     same_spent = after_spent ms o ∙ h.same_spent ∙ sym (after_spent ms' o');
     same_steps = after_steps ms o ∙ ap suc h.same_steps ∙ sym (after_steps ms' o');
-    same_tape = after_tape ms o ∙ (λ i. cond (h.same_none i) (tape (e i) ++ h.same_tape i) []) ∙ sym (after_tape ms' o');
+    same_tape = after_tape ms o ∙ (λ i. if h.same_none i then tape (e i) ++ h.same_tape i else []) ∙ sym (after_tape ms' o');
     same_sets = λ x n v. ap (λ (T : Sets). T x v) (after_sets ms o) ∙ h.same_sets x n v ∙ sym (ap (λ (T : Sets). T x v) (after_sets ms' o'));
   }
 

@@ -1,5 +1,5 @@
 -- A walk stays within the limits: what is left to do on a branch never grows past what its start had.
-use Rattle.std.proofs.Common.{◌≡◌, ℕ, zero, suc, ◌+◌, ◌<◌, ◌≤◌, true, ltb, List, [], ◌∷◌, ◌++◌, map, length, drop, ap, arith}
+use Rattle.std.proofs.Common.{◌≡◌, ℕ, zero, suc, ◌+◌, ◌<◌, ◌≤◌, true, nat_lt, List, [], ◌∷◌, ◌++◌, map, length, drop, ap, arith}
 use Rattle.std.proofs.lemmas.List.{length-append, length-drop}
 use Rattle.std.proofs.lemmas.Bool.{cond_both, ltb-true, le-leb, and_from}
 use Rattle.plfd.specs.declared.settings.Setting.{Setting}
@@ -76,7 +76,7 @@ Kept ps = Each Light ps × Stacked ps
 kept_advanced : (S : List Setting) (ps : List Position) → Kept ps → Kept (advanced S ps)
 kept_advanced S [] h = h
 kept_advanced S (b at c ∷ ps) h =
-    cond_both (ltb c (length b.entries)) _ _ Kept
+    cond_both (nat_lt c (length b.entries)) _ _ Kept
     (λ e. (light_turn S b c ps (ltb-true _ _ e) h.0.0 h.0.1, stacked_step S b c ps (asked b c) h.1.0 h.1.1))
     (λ _. h)
 

@@ -1,19 +1,19 @@
 -- An entry is true exactly where what it asks for is met.
-use Rattle.std.proofs.Common.{◌≡◌, Bool, true, false, not, ◌⊎◌, List, [], ◌∷◌, ◌++◌, map, refl, inl, inr, ⊎_elim}
+use Rattle.std.proofs.Common.{◌≡◌, Bool, true, false, not, ◌⊎◌, List, [], ◌∷◌, map, refl, inl, inr, ⊎_elim}
 use mathlib.Core.Bool.{beq}
 use Rattle.std.proofs.lemmas.Bool.{true≢false, false≢true, and_parts, and_cases, and_from, and_left, and_right, or_cases, or_parts, or_from, or_left, or_right, not-true, not-false, not_from_true, not_from_false}
 use Rattle.plfd.specs.declared.nodes.Connective.{Connective}
 use Rattle.plfd.specs.declared.nodes.Connective.TheVariants.{And, Or, Implies, Iff}
 use Rattle.plfd.specs.Formula.{Formula, constant, atom, negation, join, Assignment, truth, joined, named, covers, Keeps}
 use Rattle.tableau.specs.Asks.{Entry, ◌is◌, Asks, nothing, clash, narrow, append, split, join_asks, asks}
+use Rattle.tableau.proofs.Every.{Every}
 
 -- entries are true in an assignment: each has the truth that its sign says
 abbrev pub True : Assignment → Entry → Type 0
 True σ (f is s) = truth σ f ≡ s
 
 abbrev pub AllTrue : Assignment → List Entry → Type 0
-AllTrue σ [] = Unit {0}
-AllTrue σ (e ∷ es) = True σ e × AllTrue σ es
+AllTrue σ es = Every (True σ) es
 
 -- what is asked for is met
 abbrev pub Met : Assignment → Asks → Type 0
@@ -95,14 +95,6 @@ meets σ (negation f is s) m = sign_not (truth σ f) s m.0
 meets σ (join k l r is s) m = join_met σ l r k s m
 
 -- ---- lists of entries
-
-pub true_parts : (σ : Assignment) (xs ys : List Entry) → AllTrue σ (xs ++ ys) → AllTrue σ xs × AllTrue σ ys
-true_parts σ [] ys h = (tt, h)
-true_parts σ (x ∷ xs) ys h = let r = true_parts σ xs ys h.1 in ((h.0, r.0), r.1)
-
-pub true_join : (σ : Assignment) (xs ys : List Entry) → AllTrue σ xs → AllTrue σ ys → AllTrue σ (xs ++ ys)
-true_join σ [] ys h k = k
-true_join σ (x ∷ xs) ys h k = (h.0, true_join σ xs ys h.1 k)
 
 -- the entries at a branch's start are the rules
 pub keeps_true : (σ : Assignment) (rules : List Formula) → Keeps σ rules → AllTrue σ (map (λ f. f is true) rules)

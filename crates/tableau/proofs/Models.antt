@@ -12,9 +12,10 @@ use Rattle.tableau.specs.Branches.{Sets, Branch, start, asked, narrowed, none_be
 use Rattle.tableau.specs.Walk.{Position, ◌at◌, step, turn, Outcome, found, none, spent, after, walk_on, walk}
 use Rattle.tableau.specs.Pages.{Filled, Holdable, Picks}
 use Rattle.tableau.specs.Laws.{Keeping, Decided, WalkDecides, Each}
-use Rattle.tableau.proofs.Means.{AllTrue, Met, met, meets, true_parts, true_join, keeps_true, true_keeps}
+use Rattle.tableau.proofs.Every.{every_append, every_parts}
+use Rattle.tableau.proofs.Means.{True, AllTrue, Met, met, meets, keeps_true, true_keeps}
 use Rattle.tableau.proofs.Sets.{filled_if, empty_lacks, not_empty, narrowed_other, narrowed_within, picks_narrowed, picks_before, picks_allowed}
-use Rattle.tableau.proofs.Entries.{OverAll, OverAsks, over_asked, over_append, over_rules, rules_name}
+use Rattle.tableau.proofs.Entries.{Over, OverAll, OverAsks, over_asked, over_rules, rules_name}
 use Rattle.tableau.proofs.Walking.{walking, here, behind, at_cursor, behind_grown, each_append, narrowing}
 
 module _ (S : List Setting) where
@@ -66,7 +67,7 @@ module _ (S : List Setting) where
       (cases_eq x (named a))
 
   grown_live : (b : Branch) (c d : ℕ) (es : List Entry) → Live b c → OverAll Declared es → Live (record { entries = b.entries ++ es; sets = b.sets; narrowings = b.narrowings }) d
-  grown_live b c d es g h = record { over = over_append Declared b.entries es g.over h; inside = g.inside; filled = g.filled }
+  grown_live b c d es g h = record { over = every_append (Over Declared) b.entries es g.over h; inside = g.inside; filled = g.filled }
 
   live_step : (b : Branch) (c : ℕ) (a : Asks) → Live b c → OverAsks Declared a → Each Live (step S b c a).next
   live_step b c nothing g h = (record { over = g.over; inside = g.inside; filled = g.filled }, tt)
@@ -91,10 +92,10 @@ module _ (S : List Setting) where
 
   module _ (σ : Assignment) (b : Branch) (c : ℕ) (l : c < length b.entries) where
     grown_true : (es : List Entry) → AllTrue σ (behind b c) → AllTrue σ es → AllTrue σ (drop (suc c) (b.entries ++ es))
-    grown_true es h k = subst (AllTrue σ) (sym (behind_grown b c es l)) (true_join σ (behind b c) es h k)
+    grown_true es h k = subst (AllTrue σ) (sym (behind_grown b c es l)) (every_append (True σ) (behind b c) es h k)
 
     true_grown : (es : List Entry) → AllTrue σ (drop (suc c) (b.entries ++ es)) → AllTrue σ (behind b c) × AllTrue σ es
-    true_grown es h = true_parts σ (behind b c) es (subst (AllTrue σ) (behind_grown b c es l) h)
+    true_grown es h = every_parts (True σ) (behind b c) es (subst (AllTrue σ) (behind_grown b c es l) h)
 
     step_to : Within S σ → (a : Asks) → OverAsks Declared a → Picks S b.sets σ → AllTrue σ (behind b c) → Met σ a → Any σ (step S b c a).next
     step_to w nothing o p h m = inl (p, h)

@@ -1,5 +1,5 @@
 -- Sets: when one is empty, and what narrowing makes of them.
-use Rattle.std.proofs.Common.{◌≡◌, ℕ, zero, suc, ◌<◌, Bool, true, false, ◌&&◌, eqb, List, length, sym, refl, ap, ◌∙◌, ⊎_elim, arith}
+use Rattle.std.proofs.Common.{◌≡◌, ℕ, zero, suc, ◌<◌, Bool, true, false, ◌&&◌, ◌==◌, List, length, sym, refl, ap, ◌∙◌, ⊎_elim, arith}
 use Rattle.std.proofs.lemmas.Bool.{true≢false, eqb-true, eq-eqb, ne_eqb, ltb-true, cases_eq, cases_Bool, and_parts, and_from, cond_both, cond-true, cond-false, not-true, not_from_false}
 use Rattle.plfd.specs.declared.settings.Setting.{Setting}
 use Rattle.plfd.specs.declared.nodes.Atom.{Atom}
@@ -51,22 +51,22 @@ allowed_is a false c h = not-true (covers a c) h
 module _ (a : Atom) (s : Bool) (T : Sets) where
   -- the set of another setting is as it was
   pub narrowed_other : (x : ℕ) → (x ≡ named a → ⊥) → narrowed a s T x ≡ T x
-  narrowed_other x ne = cond-false (eqb x (named a)) _ _ (ne_eqb x (named a) ne)
+  narrowed_other x ne = cond-false (x == named a) _ _ (ne_eqb x (named a) ne)
 
   -- a member afterwards was one before
   pub narrowed_within : (x c : ℕ) → narrowed a s T x c ≡ true → T x c ≡ true
   narrowed_within x c =
-      cond_both (eqb x (named a)) (λ d. T x d && allows a s d) (T x) (λ (p : ℕ → Bool). p c ≡ true → T x c ≡ true)
+      cond_both (x == named a) (λ d. T x d && allows a s d) (T x) (λ (p : ℕ → Bool). p c ≡ true → T x c ≡ true)
       (λ _ h. (and_parts (T x c) _ h).0) (λ _ h. h)
 
   narrowed_here : (c : ℕ) → narrowed a s T (named a) c ≡ (T (named a) c && allows a s c)
-  narrowed_here c = ap (λ (p : ℕ → Bool). p c) (cond-true (eqb (named a) (named a)) (λ d. T (named a) d && allows a s d) (T (named a)) (eq-eqb (named a) (named a) refl))
+  narrowed_here c = ap (λ (p : ℕ → Bool). p c) (cond-true (named a == named a) (λ d. T (named a) d && allows a s d) (T (named a)) (eq-eqb (named a) (named a) refl))
 
   module _ (S : List Setting) (σ : Assignment) where
     -- a pick that the atom allows stays one
     pub picks_narrowed : Picks S T σ → covers a (σ (named a)) ≡ s → Picks S (narrowed a s T) σ
     picks_narrowed h k x l =
-        cond_both (eqb x (named a)) (λ d. T x d && allows a s d) (T x) (λ (p : ℕ → Bool). p (σ x) ≡ true)
+        cond_both (x == named a) (λ d. T x d && allows a s d) (T x) (λ (p : ℕ → Bool). p (σ x) ≡ true)
         (λ e. and_from _ _ (h x l) (ap (λ y. allows a s (σ y)) (eqb-true x (named a) e) ∙ allowed a s _ k)) (λ _. h x l)
 
     pub picks_before : Picks S (narrowed a s T) σ → Picks S T σ

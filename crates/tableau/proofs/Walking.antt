@@ -1,5 +1,5 @@
 -- How a walk goes: one induction for all that is shown of its outcome, and what a turn does to the positions.
-use Rattle.std.proofs.Common.{◌≡◌, ℕ, zero, suc, ◌<◌, ◌≤◌, Bool, true, false, ltb, List, [], ◌∷◌, ◌++◌, map, length, get_or, drop, arith, drop-cons}
+use Rattle.std.proofs.Common.{◌≡◌, ℕ, zero, suc, ◌<◌, ◌≤◌, Bool, true, false, nat_lt, List, [], ◌∷◌, ◌++◌, map, length, slice_index_or, drop, arith, drop-cons}
 use Rattle.std.proofs.lemmas.List.{drop-append-le}
 use Rattle.std.proofs.lemmas.Bool.{cond_both, ltb-true, ltb-false}
 use Rattle.plfd.specs.declared.settings.Setting.{Setting}
@@ -19,10 +19,10 @@ module _ (S : List Setting) (P : ℕ → List Position → Outcome → Type 0)
   pub walking : (n : ℕ) (ps : List Position) → P n ps (walk_on S n ps)
   walking n [] = ends n
   walking zero (b at c ∷ ps) =
-      cond_both (ltb c (length b.entries)) _ _ (P zero (b at c ∷ ps))
+      cond_both (nat_lt c (length b.entries)) _ _ (P zero (b at c ∷ ps))
       (λ e. stops b c ps (ltb-true _ _ e)) (λ e. finds zero b c ps (ltb-false _ _ e))
   walking (suc n) (b at c ∷ ps) =
-      cond_both (ltb c (length b.entries)) _ _ (P (suc n) (b at c ∷ ps))
+      cond_both (nat_lt c (length b.entries)) _ _ (P (suc n) (b at c ∷ ps))
       (λ e. goes n b c ps (ltb-true _ _ e) _ (walking n (turn S b c ps).next)) (λ e. finds (suc n) b c ps (ltb-false _ _ e))
 
 -- ---- a step that narrows a set closes the branch or goes on
@@ -33,7 +33,7 @@ narrowing S b c a s P = cond_both (empty S (narrowed a s b.sets) (named a)) (clo
 -- ---- the entry at the cursor, and those behind it
 
 abbrev pub here : Branch → ℕ → Entry
-here b c = get_or b.entries c (constant true is true)
+here b c = slice_index_or b.entries c (constant true is true)
 
 abbrev pub behind : Branch → ℕ → List Entry
 behind b c = drop (suc c) b.entries

@@ -1,5 +1,5 @@
 -- Branches: what they hold, where they start, and what becomes of one when an entry gets what it asks for.
-use Rattle.std.specs.Prelude.{ℕ, zero, suc, Bool, true, cond, not, ◌&&◌, List, [], ◌∷◌, ◌++◌, map, length, ◌==◌, nat_le, slice_index_or}
+use Rattle.std.specs.Prelude.{ℕ, zero, suc, Bool, true, if◌then◌else◌, not, ◌&&◌, List, [], ◌∷◌, ◌++◌, map, length, ◌==◌, nat_le, slice_index_or}
 use Rattle.plfd.specs.declared.settings.Setting.{Setting}
 use Rattle.plfd.specs.declared.nodes.Atom.{Atom}
 use Rattle.plfd.specs.Settings.{domain, setting}
@@ -34,11 +34,11 @@ asked b k = asks (slice_index_or b.entries k (constant true is true))
 
 -- the atom with its sign allows a choice: one that it covers, or with the sign false one that it does not
 abbrev pub allows : Atom → Bool → ℕ → Bool
-allows a s c = cond s (covers a c) (not (covers a c))
+allows a s c = if s then covers a c else not (covers a c)
 
 -- the set of the atom's setting keeps what is allowed; the others stay as they are
 abbrev pub narrowed : Atom → Bool → Sets → Sets
-narrowed a s T x = cond (x == named a) (λ c. T x c && allows a s c) (T x)
+narrowed a s T x = if x == named a then (λ c. T x c && allows a s c) else T x
 
 -- a branch with further entries behind the others
 abbrev pub grown : List Entry → Branch → Branch

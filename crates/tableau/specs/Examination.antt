@@ -1,5 +1,6 @@
 -- The examination: bytes read as one tableau, command by command; the number of commands, or the first fault with its offset.
-use Rattle.std.specs.Prelude.{ℕ, zero, suc, ◌+◌, Bool, true, false, cond, not, ◌&&◌, List, [], ◌∷◌, ◌++◌, length, Some, None, Option, ◌==◌, nat_le, nat_lt, slice_index}
+use Rattle.std.specs.Prelude.{ℕ, zero, suc, ◌+◌, Bool, false, if◌then◌else◌, not, List, [], ◌∷◌, ◌++◌, length, Some, None, Option, ◌==◌, nat_le, nat_lt, slice_index}
+use Rattle.std.specs.List.{list_all}
 use Rattle.plfd.specs.declared.settings.Setting.{Setting}
 use Rattle.plfd.specs.Answers.{Answer, given, refused, and_then, Check, ◌⇒◌, unless}
 use Rattle.plfd.specs.Formula.{Formula}
@@ -15,11 +16,12 @@ use Rattle.tableau.specs.Faults.{tape_fault}
 -- the command of a command byte whose operand is at the front of bs; other bytes are no commands
 abbrev pub command_of : ℕ → List ℕ → Option Command
 command_of byte bs =
-    cond (byte == 0x20) (Some (Expand Append (pair bs 0)))
-    (cond (byte == 0x21) (Some (Expand Split (pair bs 0)))
-    (cond (byte == 0x22) (Some (Expand Narrow (pair bs 0)))
-    (cond (byte == 0x23) (Some (Expand Clash (pair bs 0)))
-    (cond (byte == 0x24) (Some (Empty (slice_index bs 0))) None))))
+    if byte == 0x20 then Some (Expand Append (pair bs 0))
+    else if byte == 0x21 then Some (Expand Split (pair bs 0))
+    else if byte == 0x22 then Some (Expand Narrow (pair bs 0))
+    else if byte == 0x23 then Some (Expand Clash (pair bs 0))
+    else if byte == 0x24 then Some (Empty (slice_index bs 0))
+    else None
 
 -- how many bytes follow the command byte
 abbrev pub operands : Command → ℕ
@@ -57,8 +59,7 @@ obeyed b (Empty x) = []
 
 -- each branch is within the limits
 abbrev pub all_fit : List Branch → Bool
-all_fit [] = true
-all_fit (b ∷ bs) = fits b && all_fit bs
+all_fit bs = list_all fits bs
 
 -- why a command is not done to a branch
 abbrev pub command_checks : List Setting → Branch → ℕ → Command → List Check

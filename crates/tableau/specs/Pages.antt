@@ -1,5 +1,6 @@
 -- Words on a page, that is on its settings and its rules.
-use Rattle.std.specs.Prelude.{◌≡◌, ℕ, ◌<◌, ◌≤◌, Bool, true, false, ◌||◌, List, [], ◌∷◌, map, length, ◌==◌}
+use Rattle.std.specs.Prelude.{◌≡◌, ℕ, ◌<◌, ◌≤◌, Bool, true, false, ◌||◌, List, map, length, ◌==◌}
+use Rattle.std.specs.List.{list_any}
 use Rattle.plfd.specs.declared.settings.Setting.{Setting}
 use Rattle.plfd.specs.Settings.{domain, setting}
 use Rattle.plfd.specs.Formula.{Formula, constant, atom, negation, join, Assignment, named, Keeps, Within, total, all_formed}
@@ -36,8 +37,7 @@ names x (join k f g) = names x f || names x g
 
 -- and some rule of several names it
 abbrev pub named_by : List Formula → ℕ → Bool
-named_by [] x = false
-named_by (f ∷ fs) x = names x f || named_by fs x
+named_by fs x = list_any (names x) fs
 
 -- equal codes stand in the same order, and the settings that they name were declared alike, whatever else is declared
 pub record SameRules (S : List Setting) (rules : List Formula) (S' : List Setting) (rules' : List Formula) : Type 0 where

@@ -1,5 +1,5 @@
 -- The walk through the branches of a tableau, under an allowance of steps.
-use Rattle.std.specs.Prelude.{ℕ, zero, suc, Bool, true, false, cond, List, [], ◌∷◌, ◌++◌, map, length, Some, None, nat_lt}
+use Rattle.std.specs.Prelude.{ℕ, zero, suc, Bool, true, false, if◌then◌else◌, List, [], ◌∷◌, ◌++◌, map, length, Some, None, nat_lt}
 use Rattle.plfd.specs.declared.settings.Setting.{Setting}
 use Rattle.plfd.specs.declared.nodes.Atom.{Atom}
 use Rattle.plfd.specs.Formula.{Formula, named}
@@ -37,7 +37,7 @@ abbrev pub step : List Setting → Branch → ℕ → Asks → Step
 step S b c nothing = passed b c nothing
 step S b c clash = passed b c clash
 step S b c (narrow a s) =
-    cond (empty S (narrowed a s b.sets) (named a)) (closing c a) (passed b c (narrow a s))
+    if empty S (narrowed a s b.sets) (named a) then closing c a else passed b c (narrow a s)
 step S b c (append es) = passed b c (append es)
 step S b c (split l r) = passed b c (split l r)
 
@@ -62,10 +62,10 @@ after ms (spent k) = spent (suc k)
 -- left, found where the cursor is past the last entry, else a step
 abbrev pub walk_on : List Setting → ℕ → List Position → Outcome
 walk_on S n [] = none [] 0
-walk_on S zero (b at c ∷ ps) = cond (nat_lt c (length b.entries)) (spent 0) (found b.sets 0)
+walk_on S zero (b at c ∷ ps) = if nat_lt c (length b.entries) then spent 0 else found b.sets 0
 walk_on S (suc n) (b at c ∷ ps) =
     let t = turn S b c ps in
-    cond (nat_lt c (length b.entries)) (after t.commands (walk_on S n t.next)) (found b.sets 0)
+    if nat_lt c (length b.entries) then after t.commands (walk_on S n t.next) else found b.sets 0
 
 -- the walk over a page
 abbrev pub walk : List Setting → List Formula → ℕ → Outcome
@@ -74,7 +74,7 @@ walk S rules allowance = walk_on S allowance (start S rules at 0 ∷ [])
 -- one turn of all positions together; where the walk has ended they stay
 abbrev pub advanced : List Setting → List Position → List Position
 advanced S [] = []
-advanced S (b at c ∷ ps) = cond (nat_lt c (length b.entries)) (turn S b c ps).next (b at c ∷ ps)
+advanced S (b at c ∷ ps) = if nat_lt c (length b.entries) then (turn S b c ps).next else b at c ∷ ps
 
 -- the positions after k turns
 abbrev pub reached : List Setting → ℕ → List Position → List Position

@@ -1,5 +1,5 @@
 -- Worked pages: small pages with what comes of them, by these definitions alone.
-use Rattle.std.specs.Prelude.{◌≡◌, ℕ, zero, suc, ◌+◌, ◌/◌, ◌%◌, Bool, cond, List, [], ◌∷◌, ◌++◌, map, slice_index}
+use Rattle.std.specs.Prelude.{◌≡◌, ℕ, zero, suc, ◌+◌, ◌/◌, ◌%◌, Bool, if◌then◌else◌, List, [], ◌∷◌, ◌++◌, map, slice_index}
 use Rattle.plfd.specs.declared.settings.Setting.{Setting}
 use Rattle.plfd.specs.Answers.{Reason, Answer, given, refused, and_then}
 use Rattle.plfd.specs.Formula.{Formula, nodes}
@@ -34,7 +34,7 @@ pub record Worked : Type 0 where
 -- the members below n, rising
 abbrev pub members : ℕ → (ℕ → Bool) → List ℕ
 members zero p = []
-members (suc n) p = members n p ++ cond (p n) (n ∷ []) []
+members (suc n) p = members n p ++ (if p n then n ∷ [] else [])
 
 -- the members of each setting's set, from setting x on
 abbrev pub listed : List Setting → ℕ → Sets → List (List ℕ)

@@ -1,7 +1,7 @@
 //! The commands of a tape.
 
 /// What is done to a branch with one of its entries.
-#[derive(Clone, Copy)]
+#[derive(Clone, Copy, Debug, PartialEq, Eq, Hash)]
 pub enum Move {
     /// What the entry asks for is appended.
     Append,
@@ -14,7 +14,7 @@ pub enum Move {
 }
 
 /// One command: a move that expands an entry of the branch, or a setting whose set is empty, so that the branch closes.
-#[derive(Clone, Copy)]
+#[derive(Clone, Copy, Debug, PartialEq, Eq, Hash)]
 pub enum Command {
     Expand(Move, u16),
     Empty(u8),

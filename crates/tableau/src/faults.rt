@@ -3,21 +3,21 @@ ghost use Rattle.std.specs.Prelude.{◌≡◌};
 ghost use Rattle.tableau.specs.Faults.{fault_number};
 
 /// A fault of a tape; each has a number of its own.
-#[derive(Clone, Copy, PartialEq, Debug)]
+#[derive(Clone, Copy, Debug, PartialEq, Eq, Hash)]
 pub enum TapeFault {
-    UnknownCommand,
-    CutShort,
+    UnknownCommand = 23,
+    CutShort = 24,
     /// The branch has no such entry, or the page no such setting.
-    NotThere,
+    NotThere = 25,
     /// The entry does not take this command.
-    Misfit,
-    SetNotEmpty,
+    Misfit = 26,
+    SetNotEmpty = 27,
     /// The branch would have too many entries or narrowings.
-    BranchFull,
+    BranchFull = 28,
     /// A byte follows the last close.
-    TrailingByte,
+    TrailingByte = 29,
     /// The tape ends with a branch still open.
-    BranchOpen,
+    BranchOpen = 30,
 }
 
 impl TapeFault {
@@ -25,15 +25,6 @@ impl TapeFault {
     pub fn number(self) -> u8
         ensures value { result ≡ fault_number self }
     {
-        match self {
-            TapeFault::UnknownCommand => 23,
-            TapeFault::CutShort => 24,
-            TapeFault::NotThere => 25,
-            TapeFault::Misfit => 26,
-            TapeFault::SetNotEmpty => 27,
-            TapeFault::BranchFull => 28,
-            TapeFault::TrailingByte => 29,
-            TapeFault::BranchOpen => 30,
-        }
+        self as u8
     }
 }
