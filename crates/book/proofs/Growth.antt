@@ -1,70 +1,58 @@
--- A table with the same first nodes as another, and with one node more behind them.
-use Rattle.std.proofs.Common.{◌≡◌, ℕ, ◌+◌, ◌<◌, ◌≤◌, true, List, [], length, get_or, take, set, sym, ap, ◌∙◌, ⊎_elim, arith}
-use Rattle.std.proofs.lemmas.List.{length-set, get_or-set_same, take-set-le, take-take, get_or-take}
+-- A list of nodes with more behind it, and with one node more.
+use Rattle.std.proofs.Common.{◌≡◌, ℕ, ◌+◌, ◌<◌, ◌≤◌, true, List, [], ◌∷◌, ◌++◌, length, sym, refl, ap, ◌∙◌, ⊎_elim, arith, length-append}
+use Rattle.std.proofs.lemmas.List.{take-append-le, get_or_append_left, get_or_push}
 use Rattle.std.proofs.lemmas.Bool.{cases_eq}
 use Rattle.plfd.specs.declared.settings.Setting.{Setting}
 use Rattle.plfd.specs.declared.nodes.Node.{Node}
 use Rattle.plfd.specs.Formula.{nodes}
 use Rattle.plfd.specs.Code.{arity, top, raise, node_fits}
-use Rattle.book.specs.declared.tables.Placed.{Placed}
-use Rattle.book.specs.Places.{raised, stack, unplaced, placed, Fitting}
-use Rattle.book.specs.Growing.{Shaped, record_of}
-use Rattle.book.proofs.Stack.{stack_more}
+use Rattle.book.specs.declared.nodes.Placed.{Placed}
+use Rattle.book.specs.Places.{raised, stack, made, unplaced, placed, formula_at, record_of, Spans, Supplied, Fitting}
+use Rattle.book.proofs.Stack.{raised-append, made_all}
 
--- a table of which the first c nodes are those of another
-module _ (ps ps' : List Placed) (c : ℕ) (old : take c ps' ≡ take c ps) where
-  pub old_stack : (k : ℕ) → k ≤ c → stack ps' k ≡ stack ps k
-  old_stack k h = ap (raised []) (sym (take-take k c ps' h) ∙ ap (take k) old ∙ take-take k c ps h)
+-- the first nodes are as they were
+module _ (ps more : List Placed) where
+  pub old_stack : (k : ℕ) → k ≤ length ps → stack (ps ++ more) k ≡ stack ps k
+  old_stack k h = ap (raised []) (take-append-le k ps more h)
 
-  pub old_placed : (k : ℕ) → k < c → placed ps' k ≡ placed ps k
-  old_placed k h = sym (get_or-take c ps' k unplaced h) ∙ ap (λ l. get_or l k unplaced) old ∙ get_or-take c ps k unplaced h
+  pub old_placed : (k : ℕ) → k < length ps → placed (ps ++ more) k ≡ placed ps k
+  old_placed k h = get_or_append_left ps more unplaced k h
 
-  pub old_shaped : length ps' ≡ 1024 → Shaped ps c → Shaped ps' c
-  old_shaped room s = record {
-    room = room;
-    few = s.few;
-    spans = λ k h. ap (λ p. p.span) (old_placed k h) ∙ s.spans k h ∙ ap (λ l. nodes (top l)) (sym (old_stack (k + 1) (omega arith)));
-    supplied = λ k h. rw (old_placed k h, old_stack k (omega arith)) (s.supplied k h);
-  }
+  pub old_formula : (k : ℕ) → k < length ps → formula_at (ps ++ more) k ≡ formula_at ps k
+  old_formula k h = ap top (old_stack (k + 1) (omega arith))
 
-  pub old_fitting : (S : List Setting) → Fitting S ps c → Fitting S ps' c
-  old_fitting S f k h = ap (λ p. node_fits S p.node) (old_placed k h) ∙ f k h
+-- what held of each node holds of each, if it holds of the one more
+each_more : (P : ℕ → Type 0) (ps : List Placed) (p : Placed) → ((k : ℕ) → k < length ps → P k) → P (length ps) → (k : ℕ) → k < length (ps ++ p ∷ []) → P k
+each_more P ps p old new k h =
+    let long = length-append ps (p ∷ []) in
+    ⊎_elim (λ e. rw e new) (λ ne. old k (omega arith)) (cases_eq k (length ps))
 
--- one node more
-module _ (ps : List Placed) (end : ℕ) (s : Shaped ps end) (room : end < 1024) (n : Node) (enough : arity n ≤ length (stack ps end)) where
-  abbrev more : List Placed
-  more = set ps end (record_of ps end n)
+module _ (ps : List Placed) (n : Node) where
+  abbrev pub with_node : List Placed
+  with_node = ps ++ record_of ps n ∷ []
 
-  pub put_old : take end more ≡ take end ps
-  put_old = take-set-le end ps end (record_of ps end n) (omega arith)
+  new_placed : placed with_node (length ps) ≡ record_of ps n
+  new_placed = get_or_push ps (record_of ps n) unplaced (length ps) refl
 
-  put_placed : placed more end ≡ record_of ps end n
-  put_placed = get_or-set_same ps end (record_of ps end n) unplaced (omega (arith, s.room))
+  pub made_more : made with_node ≡ raise (made ps) n
+  made_more = raised-append [] ps (record_of ps n ∷ [])
 
-  pub put_stack : stack more (end + 1) ≡ raise (stack ps end) n
-  put_stack =
-      stack_more more end (omega (arith, length-set ps end (record_of ps end n), s.room))
-      ∙ (λ i. raise (old_stack ps more end put_old end (omega arith) i) (put_placed i).node)
+  new_formula : formula_at with_node (length ps) ≡ top (raise (made ps) n)
+  new_formula =
+      let long : length with_node ≡ length ps + 1 = length-append ps (record_of ps n ∷ []) in
+      ap top (ap (stack with_node) (sym long) ∙ made_all with_node ∙ made_more)
 
-  pub put_shaped : Shaped more (end + 1)
-  put_shaped =
-      let before = old_shaped ps more end put_old (length-set ps end (record_of ps end n) ∙ s.room) s in
-      record {
-        room = before.room;
-        few = omega arith;
-        spans = λ k h. ⊎_elim
-            (λ e. rw e (ap (λ p. p.span) put_placed ∙ ap (λ l. nodes (top l)) (sym put_stack)))
-            (λ ne. before.spans k (omega arith))
-            (cases_eq k end);
-        supplied = λ k h. ⊎_elim
-            (λ e. rw e (rw (put_placed, old_stack ps more end put_old end (omega arith)) enough))
-            (λ ne. before.supplied k (omega arith))
-            (cases_eq k end);
-      }
+  pub spans_more : Spans ps → Spans with_node
+  spans_more spans = each_more (λ k. (placed with_node k).span ≡ nodes (formula_at with_node k)) ps (record_of ps n)
+      (λ k h. rw (old_placed ps (record_of ps n ∷ []) k h, old_formula ps (record_of ps n ∷ []) k h) (spans k h))
+      (rw (new_placed, new_formula) refl)
 
-  pub put_fitting : (S : List Setting) → node_fits S n ≡ true → Fitting S ps end → Fitting S more (end + 1)
-  put_fitting S fits f k h =
-      ⊎_elim
-      (λ e. rw e (ap (λ p. node_fits S p.node) put_placed ∙ fits))
-      (λ ne. old_fitting ps more end put_old S f k (omega arith))
-      (cases_eq k end)
+  pub supplied_more : arity n ≤ length (made ps) → Supplied ps → Supplied with_node
+  supplied_more enough supplied = each_more (λ k. arity (placed with_node k).node ≤ length (stack with_node k)) ps (record_of ps n)
+      (λ k h. rw (old_placed ps (record_of ps n ∷ []) k h, old_stack ps (record_of ps n ∷ []) k (omega arith)) (supplied k h))
+      (rw (new_placed, old_stack ps (record_of ps n ∷ []) (length ps) (omega arith), made_all ps) enough)
+
+  pub fitting_more : (S : List Setting) → node_fits S n ≡ true → Fitting S ps → Fitting S with_node
+  fitting_more S fits fitting = each_more (λ k. node_fits S (placed with_node k).node ≡ true) ps (record_of ps n)
+      (λ k h. rw (old_placed ps (record_of ps n ∷ []) k h) (fitting k h))
+      (rw new_placed fits)

@@ -1,30 +1,109 @@
--- The loops of a judgement, setting by setting and rule by rule.
-use Rattle.std.proofs.Common.{◌≡◌, ℕ, ◌+◌, ◌-◌, ◌<◌, ◌≤◌, true, cond, ◌&&◌, get_or, drop, ap, ◌∙◌, arith}
-use Rattle.std.proofs.lemmas.List.{at_drop_more, at_drop_all, get_or-take}
-use Rattle.plfd.specs.Settings.{domain, undeclared}
-use Rattle.plfd.specs.Formula.{Assignment, truth, constant}
-use Rattle.promises.specs.Judging.{all_true, lowest_outside}
+-- What stands at a place of a book, and its rules one by one.
+use Rattle.std.proofs.Common.{◌≡◌, ℕ, suc, refl, ◌+◌, ◌-◌, ◌<◌, ◌≤◌, true, ◌&&◌, Bool, not, List, [], ◌∷◌, Some, None, length, slice_index, drop, sym, ap, ◌∙◌, subst, ⊎_elim, arith}
+use Rattle.std.proofs.lemmas.List.{at_drop_more, at_drop_all}
+use Rattle.std.specs.List.{zip, position_or_len}
+use Rattle.std.proofs.lemmas.Bool.{and_parts, ltb-true, cases_Bool, cases_lt, cond-true, cond-false, lt-ltb, le-ltb}
+use Rattle.plfd.specs.declared.settings.Setting.{Setting}
+use Rattle.plfd.specs.declared.nodes.Atom.{Atom}
+use Rattle.plfd.specs.declared.nodes.Connective.{Connective}
+use Rattle.plfd.specs.declared.nodes.Node.{Node}
+use Rattle.plfd.specs.declared.nodes.Node.TheVariants.{Constant, Atomic, Not, Join}
+use Rattle.plfd.specs.Formula.{Assignment, truth, constant, atom, negation, join, named}
+use Rattle.plfd.specs.Code.{arity, top, below, raise, node_fits}
+use Rattle.plfd.specs.Settings.{domain}
+use Rattle.promises.specs.Judging.{chosen, all_true, lowest_outside}
 use Rattle.book.specs.declared.book.Book.{Book}
-use Rattle.book.specs.declared.tables.Settings.{Settings}
-use Rattle.book.specs.Places.{formula_at}
-use Rattle.book.specs.View.{settings_of, rules_of}
-use Rattle.book.proofs.Counts.{settings_count}
-use Rattle.book.proofs.Ends.{rule_at}
-use Rattle.book.proofs.Standing.{shape, rules_count}
+use Rattle.book.specs.Places.{stack, placed, formula_at}
+use Rattle.book.specs.Searching.{first_outside}
+use Rattle.book.specs.View.{rules_of}
+use Rattle.book.proofs.Stack.{stack_more, some_places}
+use Rattle.book.proofs.Ends.{rule_at, rules_count}
 
-pub outside_more : (s : Settings) (σ : Assignment) (x : ℕ) → x < s.count → lowest_outside (drop x (settings_of s)) σ x ≡ cond (domain (get_or s.declared x undeclared) (σ x)) (lowest_outside (drop (x + 1) (settings_of s)) σ (x + 1)) x
-outside_more s σ x h =
-    at_drop_more (λ S. lowest_outside S σ x) (settings_of s) x undeclared (omega (arith, settings_count s))
-    ∙ ap (λ d. cond (domain d (σ x)) (lowest_outside (drop (x + 1) (settings_of s)) σ (x + 1)) x) (get_or-take s.count s.declared x undeclared h)
+module _ (b : Book) (k : ℕ) (h : k < length b.nodes.placed) where
+  at : (n : Node) → (placed b.nodes.placed k).node ≡ n → formula_at b.nodes.placed k ≡ top (raise (stack b.nodes.placed k) n)
+  at n e = ap top (stack_more b.nodes.placed k h ∙ ap (raise (stack b.nodes.placed k)) e)
 
-pub outside_done : (s : Settings) (σ : Assignment) (x : ℕ) → s.count ≤ x → lowest_outside (drop x (settings_of s)) σ x ≡ x
-outside_done s σ x h = at_drop_all (λ S. lowest_outside S σ x) (settings_of s) x (omega (arith, settings_count s))
+  takes : (n : Node) → (placed b.nodes.placed k).node ≡ n → arity n ≤ length (stack b.nodes.placed k)
+  takes n e = subst (λ m. arity m ≤ length (stack b.nodes.placed k)) e (b.nodes.supplied k h)
+
+  pub at_constant : (v : _) → (placed b.nodes.placed k).node ≡ Constant v → formula_at b.nodes.placed k ≡ constant v
+  at_constant v e = at (Constant v) e
+
+  -- an atom's setting is declared
+  pub at_atom : (a : Atom) → (placed b.nodes.placed k).node ≡ Atomic a → (formula_at b.nodes.placed k ≡ atom a) × (named a < length b.settings)
+  at_atom a e =
+      let fits = subst (λ n. node_fits b.settings n ≡ true) e (b.fitting k h) in
+      (at (Atomic a) e, ltb-true (named a) (length b.settings) (and_parts _ _ fits).0)
+
+  pub at_not : (placed b.nodes.placed k).node ≡ Not → (1 ≤ k) × (formula_at b.nodes.placed k ≡ negation (formula_at b.nodes.placed (k - 1)))
+  at_not e =
+      let some : 0 < k = some_places b.nodes.placed k (takes Not e) in
+      let back : k ≡ k - 1 + 1 = omega arith in
+      (some, at Not e ∙ ap (λ q. negation (top (stack b.nodes.placed q))) back)
+
+  -- the right side ends just before
+  pub at_join : (c : Connective) → (placed b.nodes.placed k).node ≡ Join c →
+      (2 ≤ length (stack b.nodes.placed k)) × (1 ≤ k)
+      × (formula_at b.nodes.placed k ≡ join c (top (below (stack b.nodes.placed k))) (formula_at b.nodes.placed (k - 1)))
+  at_join c e =
+      let ps = b.nodes.placed in
+      let two = takes (Join c) e in
+      let some : 0 < k = some_places ps k (omega arith) in
+      let back : k ≡ k - 1 + 1 = omega arith in
+      (two, some, at (Join c) e ∙ ap (λ q. join c (top (below (stack ps k))) (top (stack ps q))) back)
 
 module _ (b : Book) (σ : Assignment) (k : ℕ) where
-  pub rule_more : k < b.rules.count → all_true σ (drop k (rules_of b.nodes)) ≡ (truth σ (formula_at b.nodes.placed (get_or b.rules.ends k 0 - 1)) && all_true σ (drop (k + 1) (rules_of b.nodes)))
+  pub rule_more : k < length b.ends → all_true σ (drop k (rules_of b.nodes.placed)) ≡ (truth σ (formula_at b.nodes.placed (slice_index b.ends k - 1)) && all_true σ (drop (k + 1) (rules_of b.nodes.placed)))
   rule_more h =
-      at_drop_more (all_true σ) (rules_of b.nodes) k (constant true) (omega (arith, rules_count b))
-      ∙ ap (λ f. truth σ f && all_true σ (drop (k + 1) (rules_of b.nodes))) (rule_at b.nodes.placed b.nodes.count (shape b) b.rules.ends b.rules.count b.met b.rises b.covers (constant true) k h)
+      at_drop_more (all_true σ) (rules_of b.nodes.placed) k (constant true) (omega (arith, rules_count b))
+      ∙ ap (λ f. truth σ f && all_true σ (drop (k + 1) (rules_of b.nodes.placed))) (rule_at b (constant true) k h)
 
-  pub rules_done : b.rules.count ≤ k → all_true σ (drop k (rules_of b.nodes)) ≡ true
-  rules_done h = at_drop_all (all_true σ) (rules_of b.nodes) k (omega (arith, rules_count b))
+  pub rules_done : length b.ends ≤ k → all_true σ (drop k (rules_of b.nodes.placed)) ≡ true
+  rules_done h = at_drop_all (all_true σ) (rules_of b.nodes.placed) k (omega (arith, rules_count b))
+
+-- a setting beside a choice that it does not have
+abbrev lacks : Setting × ℕ → Bool
+lacks p = not (domain p.0 p.1)
+
+zip_count : (S : List Setting) (row : List ℕ) → length S ≤ length row → length (zip S row) ≡ length S
+zip_count [] row h = refl
+zip_count (s ∷ S) [] h = absurd (omega arith)
+zip_count (s ∷ S) (v ∷ row) h = omega (arith, zip_count S row (omega arith))
+
+-- settings counted from x, beside what is left of the row there
+lowest_from : (σ : Assignment) (S : List Setting) (row : List ℕ) (x : ℕ) → ((k : ℕ) → slice_index row k ≡ σ (x + k)) → length S ≤ length row → lowest_outside S σ x ≡ x + position_or_len lacks (zip S row)
+lowest_from σ [] row x at h = omega arith
+lowest_from σ (s ∷ S) [] x at h = absurd (omega arith)
+lowest_from σ (s ∷ S) (v ∷ row) x at h =
+    let here : v ≡ σ (x + 0) = at 0 in
+    let start : x + 0 ≡ x = omega arith in
+    let on = lowest_from σ S row (x + 1) (λ k. let e : x + suc k ≡ x + 1 + k = omega arith in at (suc k) ∙ ap σ e) (omega arith) in
+    let same : domain s (σ x) ≡ domain s v = ap (domain s) (sym (here ∙ ap σ start)) in
+    ⊎_elim (λ t. grind (arith, on, same, t)) (λ f. grind (arith, same, f)) (cases_Bool (domain s v))
+
+module _ (S : List Setting) (row : List ℕ) (long : length S ≤ length row) where
+  abbrev pairs : List (Setting × ℕ)
+  pairs = zip S row
+
+  abbrev found : ℕ
+  found = position_or_len lacks pairs
+
+  lowest_is : lowest_outside S (chosen row) 0 ≡ position_or_len lacks (zip S row)
+  lowest_is = lowest_from (chosen row) S row 0 (λ k. let e : k ≡ 0 + k = omega arith in ap (chosen row) e) long ∙ omega arith
+
+  pub none_outside : first_outside S row ≡ None → length S ≤ lowest_outside S (chosen row) 0
+  none_outside is =
+      ⊎_elim
+      (λ low. let some = sym is ∙ cond-true _ _ _ (lt-ltb found (length pairs) low) in let z : ◌≡◌ {A = ℕ} 0 1 = cc in absurd (omega arith))
+      (λ high. omega (arith, high, lowest_is, zip_count S row long))
+      (cases_lt found (length pairs))
+
+  pub first_is_lowest : (x : ℕ) → first_outside S row ≡ Some x → (lowest_outside S (chosen row) 0 ≡ x) × (x < length S)
+  first_is_lowest x is =
+      ⊎_elim
+      (λ low.
+      let same : Some x ≡ Some found = sym is ∙ cond-true _ _ _ (lt-ltb found (length pairs) low) in
+      let e : x ≡ found = cc in
+      (lowest_is ∙ sym e, omega (arith, e, low, zip_count S row long)))
+      (λ high. let none = sym is ∙ cond-false _ _ _ (le-ltb found (length pairs) high) in let z : ◌≡◌ {A = ℕ} 0 1 = cc in absurd (omega arith))
+      (cases_lt found (length pairs))

@@ -1,12 +1,9 @@
-pub mod Counts
-pub mod Fit
 pub mod Stack
-pub mod Ends
+pub mod Sides
 pub mod Growth
-pub mod Spans
+pub mod Ends
+pub mod Judged
+pub mod Written
 pub mod Progress
 pub mod Standing
 pub mod Laid
-pub mod Sides
-pub mod Judged
-pub mod Written

@@ -1,56 +1,65 @@
--- What the node at a place of a book makes of the formulas before it.
-use Rattle.std.proofs.Common.{◌≡◌, ℕ, ◌+◌, ◌-◌, ◌<◌, ◌≤◌, true, length, sym, ap, ◌∙◌, subst, arith}
-use Rattle.std.proofs.lemmas.Bool.{and_parts, ltb-true}
-use Rattle.plfd.specs.declared.nodes.Atom.{Atom}
-use Rattle.plfd.specs.declared.nodes.Connective.{Connective}
-use Rattle.plfd.specs.declared.nodes.Node.{Node}
-use Rattle.plfd.specs.declared.nodes.Node.TheVariants.{Constant, Atomic, Not, Join}
-use Rattle.plfd.specs.Formula.{constant, atom, negation, join, nodes, named}
-use Rattle.plfd.specs.Code.{arity, top, below, raise, node_fits}
-use Rattle.book.specs.declared.book.Book.{Book}
-use Rattle.book.specs.Places.{stack, placed, formula_at}
-use Rattle.book.specs.View.{settings_of}
-use Rattle.book.proofs.Counts.{settings_count}
-use Rattle.book.proofs.Stack.{stack_more, some_places, stack_top, below_length}
+-- The sides of a node: where they end, and how many nodes they have.
+use Rattle.std.proofs.Common.{◌≡◌, ℕ, ◌+◌, ◌-◌, ◌<◌, ◌≤◌, List, [], ◌∷◌, length, ap, ◌∙◌, arith}
+use Rattle.plfd.specs.Formula.{Formula, nodes, total}
+use Rattle.plfd.specs.Code.{top, below}
+use Rattle.plfd.proofs.Stacks.{some_nodes}
+use Rattle.book.specs.declared.nodes.Nodes.{Nodes}
+use Rattle.book.specs.Places.{stack, made, formula_at, placed}
+use Rattle.book.proofs.Stack.{some_places, made_all, stack_top, stack_total, below_length}
 
-module _ (b : Book) (k : ℕ) (h : k < b.nodes.count) where
-  made : (n : Node) → (placed b.nodes.placed k).node ≡ n → formula_at b.nodes.placed k ≡ top (raise (stack b.nodes.placed k) n)
-  made n e = ap top (stack_more b.nodes.placed k (omega arith) ∙ ap (raise (stack b.nodes.placed k)) e)
+-- the last node before `end` spans the top formula
+module _ (n : Nodes) (end : ℕ) (within : end ≤ length n.placed) (one : 1 ≤ length (stack n.placed end)) where
+  pub some : 0 < end
+  some = some_places n.placed end one
 
-  takes : (n : Node) → (placed b.nodes.placed k).node ≡ n → arity n ≤ length (stack b.nodes.placed k)
-  takes n e = subst (λ m. arity m ≤ length (stack b.nodes.placed k)) e (b.supplied k h)
+  pub top_span : (placed n.placed (end - 1)).span ≡ nodes (top (stack n.placed end))
+  top_span =
+      let h = some in
+      let back : end - 1 + 1 ≡ end = omega arith in
+      n.spans (end - 1) (omega arith) ∙ ap (λ q. nodes (top (stack n.placed q))) back
 
-  pub at_constant : (v : _) → (placed b.nodes.placed k).node ≡ Constant v → formula_at b.nodes.placed k ≡ constant v
-  at_constant v e = made (Constant v) e
+  pub top_within : nodes (top (stack n.placed end)) ≤ end
+  top_within = (stack_top n.placed n.supplied end some within).within
 
-  -- an atom's setting is declared
-  pub at_atom : (a : Atom) → (placed b.nodes.placed k).node ≡ Atomic a → (formula_at b.nodes.placed k ≡ atom a) × (named a < b.settings.count)
-  at_atom a e =
-      let fits = subst (λ n. node_fits (settings_of b.settings) n ≡ true) e (b.fitting k h) in
-      (made (Atomic a) e, omega (arith, ltb-true (named a) (length (settings_of b.settings)) (and_parts _ _ fits).0, settings_count b.settings))
+-- two sides, one behind the other
+pub record Sides (n : Nodes) (end left : ℕ) : Type 0 where
+  pub before : left + 1 < end
+  pub formula : formula_at n.placed left ≡ top (below (stack n.placed end))
 
-  pub at_not : (placed b.nodes.placed k).node ≡ Not → (1 ≤ k) × (formula_at b.nodes.placed k ≡ negation (formula_at b.nodes.placed (k - 1)))
-  at_not e =
-      let some : 0 < k = some_places b.nodes.placed k (takes Not e) in
-      let back : k ≡ k - 1 + 1 = omega arith in
-      (some, made Not e ∙ ap (λ q. negation (top (stack b.nodes.placed q))) back)
+pub sides : (n : Nodes) (end : ℕ) → end ≤ length n.placed → 2 ≤ length (stack n.placed end) →
+    ((placed n.placed (end - 1)).span ≤ end - 1) × Sides n end (end - 1 - (placed n.placed (end - 1)).span)
+sides n end within two =
+    let ps = n.placed in
+    let s = stack ps end in
+    let t = stack_top ps n.supplied end (some n end within (omega arith)) within in
+    let span = top_span n end within (omega arith) in
+    let left : 0 < length (stack ps (end - nodes (top s))) = rw t.rest (omega (arith, below_length s)) in
+    let more : 0 < end - nodes (top s) = some_places ps _ left in
+    let place : end - 1 - (placed ps (end - 1)).span + 1 ≡ end - nodes (top s) = omega (arith, span) in
+    (omega (arith, span), record { before = omega (arith, place, some_nodes (top s), t.within); formula = ap (λ q. top (stack ps q)) place ∙ ap top t.rest })
 
-  -- the right side ends just before, and the left side just before the right one's nodes
-  pub at_join : (c : Connective) → (placed b.nodes.placed k).node ≡ Join c →
-      (1 ≤ k) × ((placed b.nodes.placed (k - 1)).span ≤ k - 1)
-      × (k - 1 - (placed b.nodes.placed (k - 1)).span < k)
-      × (formula_at b.nodes.placed k ≡ join c (formula_at b.nodes.placed (k - 1 - (placed b.nodes.placed (k - 1)).span)) (formula_at b.nodes.placed (k - 1)))
-  at_join c e =
-      let ps = b.nodes.placed in
-      let s = stack ps k in
-      let two = takes (Join c) e in
-      let some : 0 < k = some_places ps k (omega arith) in
-      let back : k ≡ k - 1 + 1 = omega arith in
-      let t = stack_top ps b.nodes.count (omega arith) b.supplied k some (omega arith) in
-      let right = (placed ps (k - 1)).span in
-      let span : right ≡ nodes (top s) = b.spans (k - 1) (omega arith) ∙ ap (λ q. nodes (top (stack ps q))) (sym back) in
-      let left : 0 < length (stack ps (k - nodes (top s))) = rw t.rest (omega (arith, below_length s)) in
-      let more : 0 < k - nodes (top s) = some_places ps _ left in
-      let place : k - nodes (top s) ≡ k - 1 - right + 1 = omega arith in
-      let f : top (below s) ≡ formula_at ps (k - 1 - right) = ap top (sym t.rest ∙ ap (stack ps) place) in
-      (some, omega arith, omega arith, made (Join c) e ∙ ap (λ x. join c x (top s)) f ∙ ap (λ q. join c (formula_at ps (k - 1 - right)) (top (stack ps q))) back)
+pub left_span : (n : Nodes) (end left : ℕ) → end ≤ length n.placed → Sides n end left → (placed n.placed left).span ≡ nodes (top (below (stack n.placed end)))
+left_span n end left within s = let h = s.before in n.spans left (omega arith) ∙ ap nodes s.formula
+
+two_nodes : (s : List Formula) → 2 ≤ length s → nodes (top s) + nodes (top (below s)) ≤ total s
+two_nodes [] h = absurd (omega arith)
+two_nodes (f ∷ []) h = absurd (omega arith)
+two_nodes (f ∷ g ∷ s) h = omega arith
+
+pub two_within : (n : Nodes) (end : ℕ) → end ≤ length n.placed → 2 ≤ length (stack n.placed end) → nodes (top (stack n.placed end)) + nodes (top (below (stack n.placed end))) ≤ end
+two_within n end within two = omega (arith, two_nodes (stack n.placed end) two, stack_total n.placed n.supplied end within)
+
+-- the spans of the sides that end with the last node
+module _ (n : Nodes) where
+  abbrev last : ℕ
+  last = length n.placed - 1
+
+  pub one_span : 1 ≤ length (made n.placed) → (placed n.placed last).span ≤ length n.placed
+  one_span one =
+      let one' : 1 ≤ length (stack n.placed (length n.placed)) = rw (made_all n.placed) one in
+      omega (arith, top_span n (length n.placed) (omega arith) one', top_within n (length n.placed) (omega arith) one')
+
+  pub two_spans : (left : ℕ) → 2 ≤ length (made n.placed) → left + 1 < length n.placed → formula_at n.placed left ≡ top (below (stack n.placed (length n.placed))) → (placed n.placed left).span + (placed n.placed last).span ≤ length n.placed
+  two_spans left two before formula =
+      let two' : 2 ≤ length (stack n.placed (length n.placed)) = rw (made_all n.placed) two in
+      omega (arith, left_span n (length n.placed) left (omega arith) (record { before = before; formula = formula }), top_span n (length n.placed) (omega arith) (omega (arith, two')), two_within n (length n.placed) (omega arith) two')

@@ -1,34 +1,40 @@
--- Nodes that are written behind those that stand.
-use Rattle.std.specs.Prelude.{◌≡◌, ℕ, ◌≤◌, List, ◌∷◌, length, Ok, Err, Result}
+-- Nodes that a code adds to those that stand.
+use Rattle.std.specs.Prelude.{◌≡◌, ℕ, List, [], ◌∷◌, ◌++◌, Ok, Err, Result}
 use Rattle.plfd.specs.declared.settings.Setting.{Setting}
 use Rattle.plfd.specs.declared.nodes.Node.{Node}
 use Rattle.plfd.specs.declared.faults.CodeRefusal.{CodeRefusal}
-use Rattle.plfd.specs.Answers.{Answer, given, refused}
-use Rattle.plfd.specs.Formula.{Formula, nodes}
-use Rattle.plfd.specs.Code.{top, raise}
+use Rattle.plfd.specs.Answers.{Reason, Answer, given, refused}
+use Rattle.plfd.specs.Formula.{Formula}
 use Rattle.plfd.specs.Faults.{fault}
-use Rattle.book.specs.declared.tables.Placed.{Placed}
-use Rattle.book.specs.Places.{stack, Spans, Supplied, Fitting}
+use Rattle.book.specs.declared.nodes.Placed.{Placed}
+use Rattle.book.specs.Places.{made, record_of, Fitting}
 
--- a table of which the first c nodes are in order
-pub record Shaped (ps : List Placed) (c : ℕ) : Type 0 where
-  pub room : length ps ≡ 1024
-  pub few : c ≤ 1024
-  pub spans : Spans ps c
-  pub supplied : Supplied ps c
+-- a node was added, unless there was a fault
+abbrev pub Added : List Placed → Node → Result ℕ CodeRefusal → List Placed → Type 0
+Added ps n (Ok formulas) ps' = ps' ≡ ps ++ record_of ps n ∷ []
+Added ps n (Err e) ps' = ps' ≡ ps
 
--- the record of a node that is placed behind the first `end` nodes
-abbrev pub record_of : List Placed → ℕ → Node → Placed
-record_of ps end n = record { node = n; span = nodes (top (raise (stack ps end) n)) }
+-- behind the nodes ps there are more
+pub record Behind (ps ps' : List Placed) : Type 0 where
+  pub more : List Placed
+  pub is : ps' ≡ ps ++ more
 
--- behind the first c nodes, which are as they were, the nodes up to `end` make one formula more
-pub record Grown (S : List Setting) (ps : List Placed) (c : ℕ) (ps' : List Placed) (end : ℕ) (f : Formula) : Type 0 where
-  pub made : stack ps' end ≡ f ∷ stack ps c
-  pub shaped : Shaped ps' end
-  pub fitting : Fitting S ps' end
-  pub from : c ≤ end
+-- they make one formula more, and all nodes fit the settings
+pub record Grown (S : List Setting) (ps ps' : List Placed) (f : Formula) : Type 0 where
+  pub behind : Behind ps ps'
+  pub one : made ps' ≡ f ∷ made ps
+  pub fitting : Fitting S ps'
 
--- a formula was read, and the place behind its last node is given; or the fault
-abbrev pub Tried : Answer Formula → List Setting → List Placed → ℕ → List Placed → Result ℕ CodeRefusal → Type 0
-Tried (given f) S ps c ps' r = (end : ℕ) × (r ≡ Ok end) × Grown S ps c ps' end f
-Tried (refused w) S ps c ps' r = (e : CodeRefusal) × (r ≡ Err e) × (w ≡ fault e.fault e.offset)
+-- the result refuses for this reason
+abbrev pub Refuses : Reason → Result (Unit {0}) CodeRefusal → Type 0
+Refuses w r = (e : CodeRefusal) × (r ≡ Err e) × (w ≡ fault e.fault e.offset)
+
+-- a formula was read, and its nodes stand behind the others; or there was a fault, and some of its nodes stand there
+abbrev pub Read : Answer Formula → List Setting → List Placed → List Placed → Result (Unit {0}) CodeRefusal → Type 0
+Read (given f) S ps ps' r = (r ≡ Ok tt) × Grown S ps ps' f
+Read (refused w) S ps ps' r = Refuses w r × Behind ps ps'
+
+-- a formula was read, and its nodes stand behind the others; or there was a fault, and all is as it was
+abbrev pub Tried : Answer Formula → List Setting → List Placed → List Placed → Result (Unit {0}) CodeRefusal → Type 0
+Tried (given f) S ps ps' r = (r ≡ Ok tt) × Grown S ps ps' f
+Tried (refused w) S ps ps' r = Refuses w r × (ps' ≡ ps)

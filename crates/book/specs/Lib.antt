@@ -1,3 +1,4 @@
 pub mod Places
 pub mod View
 pub mod Growing
+pub mod Searching

@@ -1,20 +1,30 @@
 //! The book: its tables, and what holds of them between any two calls.
-ghost use Rattle.std.specs.Prelude.{◌≡◌, take};
-ghost use Rattle.book.specs.Places.{Spans, Supplied, Fitting, start, Rises, Covers};
+ghost use Rattle.std.specs.Prelude.{◌≡◌, length};
+ghost use Rattle.book.specs.Places.{Fitting, start, Rises, Covers};
 
-use crate::tables::{Nodes, Rules, Settings, Suppositions};
+use crate::nodes::Nodes;
+use crate::table::Table;
+use plfd::settings::Setting;
+
+/// How much a book holds at most.
+pub const MAX_SETTINGS: usize = 128;
+
+pub const MAX_NODES: usize = 1024;
+
+pub const MAX_RULES: usize = 256;
+
+pub const MAX_SUPPOSITIONS: usize = 16;
 
 /// Every rule is one complete formula over declared settings, in postfix order, one rule behind the other.
+/// For each rule there is the place behind its last node, and for each open supposition how many rules stood when it opened.
 #[derive(Drop)]
 pub struct Book {
-    pub(crate) settings: Settings,
+    pub(crate) settings: Table<Setting, MAX_SETTINGS>,
     pub(crate) nodes: Nodes,
-    pub(crate) rules: Rules,
-    pub(crate) suppositions: Suppositions,
-    ghost spans: { Spans nodes.placed nodes.count },
-    ghost supplied: { Supplied nodes.placed nodes.count },
-    ghost fitting: { Fitting (take settings.count settings.declared) nodes.placed nodes.count },
-    ghost met: { start rules.ends rules.count ≡ nodes.count },
-    ghost rises: { Rises rules.ends rules.count },
-    ghost covers: { Covers nodes.placed rules.ends rules.count },
+    pub(crate) ends: Table<u16, MAX_RULES>,
+    pub(crate) suppositions: Table<u16, MAX_SUPPOSITIONS>,
+    ghost fitting: { Fitting settings nodes.placed },
+    ghost met: { start ends (length ends) ≡ length nodes.placed },
+    ghost rises: { Rises ends },
+    ghost covers: { Covers nodes.placed ends },
 }

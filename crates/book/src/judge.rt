@@ -1,77 +1,78 @@
 //! The judging of a row of choices.
 ghost use Rattle.std.specs.Prelude.{◌≡◌, ◌<◌, ◌≤◌, length};
 ghost use Rattle.plfd.specs.Formula.{truth};
-ghost use Rattle.promises.specs.Judging.{chosen, all_true, lowest_outside, JudgeGives};
+ghost use Rattle.promises.specs.Judging.{chosen, all_true, JudgeGives};
 ghost use Rattle.promises.specs.Refusals.{told};
 ghost use Rattle.book.specs.Places.{formula_at};
-ghost use Rattle.book.specs.View.{settings_of, rules_of, page_of};
+ghost use Rattle.book.specs.Searching.{first_outside};
+ghost use Rattle.book.specs.View.{rules_of, page_of};
 
 use crate::book::Book;
-use crate::tables::Settings;
 use plfd::nodes::Node;
 use promises::refusals::Refusal;
 
-impl Settings {
-    /// The lowest setting whose choice in the row is none of its choices, or the count where there is none.
-    fn lowest_outside(&self, row: &[u16]) -> usize
-        requires long { self.now.count ≤ length row.now }
-        ensures value { result ≡ lowest_outside (settings_of self.now) (chosen row.now) 0 }
-    {
-        for x in 0..self.count {
-            if !self.declared[x].has(row[x]) {
-                return x;
-            }
-        }
-        self.count
-    }
+/// A book and a row that has a choice for each of its settings.
+#[derive(Drop)]
+struct Judgement<'a> {
+    book: &'a Book,
+    row: &'a [u16],
+    ghost long: { length book.now.settings ≤ length row.now },
 }
 
-impl Book {
-    /// The truth of the formula whose last node is at `place`, from the truth of its sides.
-    fn truth_at(&self, place: usize, row: &[u16]) -> bool
-        requires within { place < self.now.nodes.count }
-        requires long { self.now.settings.count ≤ length row.now }
-        ensures value { result ≡ truth (chosen row.now) (formula_at self.now.nodes.placed place) }
+impl Judgement<'_> {
+    /// The lowest setting whose choice in the row is none of its choices.
+    fn outside(&self) -> Option<usize>
+        ensures value { result ≡ first_outside self.now.book.now.settings self.now.row.now }
     {
-        let node = self.nodes.placed[place].node;
-        match node {
+        let settings = self.book.settings.as_slice();
+        settings
+            .iter()
+            .zip(self.row)
+            .position(|(setting, choice)| !setting.has(*choice))
+    }
+
+    /// The truth of the formula whose last node is at `place`, from the truth of its sides.
+    fn truth_at(&self, place: usize) -> bool
+        requires within { place < length self.now.book.now.nodes.placed }
+        ensures value { result ≡ truth (chosen self.now.row.now) (formula_at self.now.book.now.nodes.placed place) }
+    {
+        let nodes = &self.book.nodes;
+        match nodes.placed.as_slice()[place].node {
             Node::Constant(value) => value,
-            Node::Atomic(atom) => atom.covers(row[atom.setting() as usize]),
-            Node::Not => !self.truth_at(place - 1, row),
+            Node::Atomic(atom) => atom.covers(self.row[usize::from(atom.setting())]),
+            Node::Not => !self.truth_at(place - 1),
             Node::Join(connective) => {
-                let right = place - 1;
-                let left = right - self.nodes.placed[right].span as usize;
-                connective.joins(self.truth_at(left, row), self.truth_at(right, row))
+                let left = self.truth_at(nodes.left_of(place));
+                connective.joins(left, self.truth_at(place - 1))
             }
         }
     }
 
     /// Whether every standing rule is true in the row.
-    fn all_true(&self, row: &[u16]) -> bool
-        requires long { self.now.settings.count ≤ length row.now }
-        ensures value { result ≡ all_true (chosen row.now) (rules_of self.now.nodes) }
+    fn all_true(&self) -> bool
+        ensures value { result ≡ all_true (chosen self.now.row.now) (rules_of self.now.book.now.nodes.placed) }
     {
-        for rule in 0..self.rules.count {
-            let end = self.rules.ends[rule] as usize;
-            if !self.truth_at(end - 1, row) {
+        for end in self.book.ends.as_slice() {
+            if !self.truth_at(usize::from(*end) - 1) {
                 return false;
             }
         }
         true
     }
+}
 
+impl Book {
     /// Says whether the row, one choice a setting, keeps every standing rule.
     pub fn judge(&self, row: &[u16]) -> Result<bool, Refusal>
         ensures gives { JudgeGives (page_of self.now) row.now (told result) }
     {
-        let count = self.settings.count;
-        if row.len() < count {
+        if row.len() < self.settings.len() {
             return Err(Refusal::RowTooShort);
         }
-        let outside = self.settings.lowest_outside(row);
-        if outside < count {
-            return Err(Refusal::NotAChoice(outside as u8));
+        let judgement = Judgement { book: self, row };
+        if let Some(setting) = judgement.outside() {
+            return Err(Refusal::NotAChoice(setting as u8));
         }
-        Ok(self.all_true(row))
+        Ok(judgement.all_true())
     }
 }

@@ -1,133 +1,79 @@
-//! The laying of rules: a code is read into the table of nodes, behind those that stand.
-ghost use Rattle.std.specs.Prelude.{◌≡◌, ◌+◌, ◌-◌, ◌<◌, ◌≤◌, length, take, slice_set};
+//! The laying of rules: a code is read into the nodes, behind those that stand.
+ghost use Rattle.std.specs.Prelude.{◌≡◌, ◌+◌, ◌-◌, ◌≤◌, length};
 ghost use Rattle.plfd.specs.Answers.{given, unless};
-ghost use Rattle.plfd.specs.Code.{arity, top, raise};
+ghost use Rattle.plfd.specs.Code.{arity};
 ghost use Rattle.plfd.specs.Faults.{told_code};
-ghost use Rattle.plfd.specs.Formula.{nodes};
 ghost use Rattle.plfd.specs.Reading.{stack_checks, end_checks, read};
 ghost use Rattle.promises.specs.Laying.{LayGives, LayMeans};
 ghost use Rattle.promises.specs.Refusals.{told};
-ghost use Rattle.book.specs.Growing.{Shaped, record_of, Tried};
-ghost use Rattle.book.specs.Places.{stack, Fitting};
-ghost use Rattle.book.specs.View.{settings_of, page_of};
+ghost use Rattle.book.specs.Growing.{Added, Read, Tried};
+ghost use Rattle.book.specs.Places.{made, Fitting};
+ghost use Rattle.book.specs.View.{page_of};
 
-use crate::book::Book;
-use crate::tables::{MAX_NODES, MAX_RULES, Nodes, Placed, Rules, Settings};
+use crate::book::{Book, MAX_NODES, MAX_RULES};
+use crate::nodes::Nodes;
 use plfd::faults::{CodeFault, CodeRefusal};
 use plfd::nodes::Node;
 use plfd::reader::Reader;
+use plfd::settings::Setting;
 use promises::refusals::Refusal;
 
-/// How many formulas there are once the node has taken its sides from `made`, where `end` nodes are in use.
-fn stacked(made: usize, end: usize, offset: usize, node: Node) -> Result<usize, CodeRefusal>
-    requires few { made ≤ 1024 }
-    ensures answer { told_code result ≡ unless (stack_checks made end offset node) (given (made - arity node + 1)) }
+/// Refuses a code that ends at this offset and made no formula, or more than one.
+fn expect_one(formulas: usize, offset: usize) -> Result<(), CodeRefusal>
+    ensures answer { told_code result ≡ unless (end_checks formulas offset) (given tt) }
 {
-    let taken = node.arity();
-    if made < taken {
-        return Err(CodeRefusal {
-            fault: CodeFault::TooFewFormulas,
-            offset,
-        });
-    }
-    if end >= MAX_NODES {
-        return Err(CodeRefusal {
-            fault: CodeFault::NodesFull,
-            offset,
-        });
-    }
-    Ok(made - taken + 1)
-}
-
-/// Gives `end` where the whole code made one formula.
-fn finished(made: usize, end: usize, offset: usize) -> Result<usize, CodeRefusal>
-    ensures answer { told_code result ≡ unless (end_checks made offset) (given end) }
-{
-    match made {
-        0 => Err(CodeRefusal {
-            fault: CodeFault::Empty,
-            offset,
-        }),
-        1 => Ok(end),
-        _ => Err(CodeRefusal {
-            fault: CodeFault::TooManyFormulas,
-            offset,
-        }),
+    match formulas {
+        0 => Err(CodeFault::Empty.at(offset)),
+        1 => Ok(()),
+        _ => Err(CodeFault::TooManyFormulas.at(offset)),
     }
 }
 
 impl Nodes {
-    /// How many nodes the formula has that ends with `node`, behind the first `end` nodes.
-    fn span_of(&self, node: Node, end: usize) -> u16
-        requires shaped { Shaped self.now.placed end }
-        requires enough { arity node ≤ length (stack self.now.placed end) }
-        ensures value { result ≡ nodes (top (raise (stack self.now.placed end) node)) }
+    /// Adds the node of a command, where the commands before it made so many formulas, and gives how many there are then.
+    // There are no more formulas than nodes, so their number fits.
+    #[tactic(auto, using(crate::proofs::Stack::made_few))]
+    fn add(&mut self, node: Node, formulas: usize, offset: usize) -> Result<usize, CodeRefusal>
+        requires few { formulas ≤ length (made self.old.placed) }
+        ensures answer { told_code result ≡ unless (stack_checks formulas (length self.old.placed) offset node) (given (formulas - arity node + 1)) }
+        ensures placed { Added self.old.placed node result self.new.placed }
     {
-        match node {
-            Node::Constant(_) => 1,
-            Node::Atomic(_) => 1,
-            Node::Not => self.placed[end - 1].span + 1,
-            Node::Join(_) => {
-                let right = self.placed[end - 1].span;
-                let left = self.placed[end - 1 - right as usize].span;
-                left + right + 1
-            }
+        let below = formulas
+            .checked_sub(node.arity())
+            .ok_or(CodeFault::TooFewFormulas.at(offset))?;
+        if self.placed.len() >= MAX_NODES {
+            return Err(CodeFault::NodesFull.at(offset));
         }
+        self.push(node);
+        Ok(below + 1)
     }
 
-    /// Places a node behind the first `end`; the count stays.
-    fn put(&mut self, node: Node, end: usize)
-        requires shaped { Shaped self.old.placed end }
-        requires enough { arity node ≤ length (stack self.old.placed end) }
-        requires room { end < 1024 }
-        ensures placed { self.new.placed ≡ slice_set self.old.placed end (record_of self.old.placed end node) }
-        ensures count { self.new.count ≡ self.old.count }
-    {
-        let span = self.span_of(node, end);
-        self.placed[end] = Placed { node, span };
-    }
-
-    /// Reads a code into the nodes behind the count, which stays; gives the place behind its last node.
-    fn read(&mut self, settings: &Settings, code: &[u8]) -> Result<usize, CodeRefusal>
-        requires shaped { Shaped self.old.placed self.old.count }
-        requires fitting { Fitting (settings_of settings.now) self.old.placed self.old.count }
-        ensures result { Tried (read (settings_of settings.now) self.old.count code.now) (settings_of settings.now) self.old.placed self.old.count self.new.placed result }
-        ensures count { self.new.count ≡ self.old.count }
-        ensures old { take self.old.count self.new.placed ≡ take self.old.count self.old.placed }
+    /// Adds the nodes of a code, as far as it can be read.
+    fn read(&mut self, settings: &[Setting], code: &[u8]) -> Result<(), CodeRefusal>
+        requires fitting { Fitting settings.now self.old.placed }
+        ensures reads { Read (read settings.now (length self.old.placed) code.now) settings.now self.old.placed self.new.placed result }
     {
         let mut reader = Reader::new(code);
-        let declared = settings.declared();
-        let mut end = self.count;
-        let mut made = 0usize;
+        let mut formulas = 0usize;
         while reader.left() > 0 {
             let offset = reader.place();
-            let node = reader.command(declared)?;
-            made = stacked(made, end, offset, node)?;
-            self.put(node, end);
-            end += 1;
+            let node = reader.command(settings)?;
+            formulas = self.add(node, formulas, offset)?;
         }
-        finished(made, end, code.len())
+        expect_one(formulas, code.len())
     }
 
-    /// Lets the first `count` nodes stand.
-    fn stand(&mut self, count: usize)
-        requires room { count ≤ 1024 }
-        ensures placed { self.new.placed ≡ self.old.placed }
-        ensures count { self.new.count ≡ count }
+    /// Adds the nodes of a code, or none where it is refused.
+    fn lay(&mut self, settings: &[Setting], code: &[u8]) -> Result<(), CodeRefusal>
+        requires fitting { Fitting settings.now self.old.placed }
+        ensures result { Tried (read settings.now (length self.old.placed) code.now) settings.now self.old.placed self.new.placed result }
     {
-        self.count = count;
-    }
-}
-
-impl Rules {
-    /// One rule more, which ends before this place.
-    fn push(&mut self, end: u16)
-        requires room { self.old.count < 256 }
-        ensures ends { self.new.ends ≡ slice_set self.old.ends self.old.count end }
-        ensures count { self.new.count ≡ self.old.count + 1 }
-    {
-        self.ends[self.count] = end;
-        self.count += 1;
+        let standing = self.placed.len();
+        let read = self.read(settings, code);
+        if read.is_err() {
+            self.truncate(standing);
+        }
+        read
     }
 }
 
@@ -137,16 +83,12 @@ impl Book {
         ensures gives { LayGives (page_of self.old) code.now (told result) (page_of self.new) }
         ensures means { LayMeans (page_of self.old) code.now (told result) (page_of self.new) }
     {
-        let rule = self.rules.count;
+        let rule = self.ends.len();
         if rule >= MAX_RULES {
             return Err(Refusal::RulesFull);
         }
-        let end = match self.nodes.read(&self.settings, code) {
-            Ok(end) => end,
-            Err(refusal) => return Err(Refusal::RuleCode(refusal)),
-        };
-        self.rules.push(end as u16);
-        self.nodes.stand(end);
+        self.nodes.lay(self.settings.as_slice(), code)?;
+        self.ends.push(self.nodes.placed.len() as u16);
         Ok(rule as u16)
     }
 }

@@ -5,5 +5,6 @@ pub mod book;
 pub mod declare;
 pub mod judge;
 pub mod lay;
-pub mod tables;
+mod nodes;
+mod table;
 pub mod write_out;

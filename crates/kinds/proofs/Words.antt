@@ -1,23 +1,46 @@
--- What the loops over the words of a wide set keep: the first i words are right.
-use Rattle.std.proofs.Common.{◌≡◌, ℕ, ◌+◌, ◌<◌, ◌≤◌, Bool, List, length, get_or, set, ap, ◌∙◌, arith, get_or-set_other, get_or-set_same, below_more}
-use Rattle.kinds.specs.declared.mask.Mask.{Mask}
+-- What an array holds that `array::from_fn` made, and which choices a wide set has by its words.
+use Rattle.std.proofs.Common.{◌≡◌, ℕ, zero, suc, ◌+◌, ◌*◌, ◌/◌, ◌%◌, ◌<◌, Bool, Some, None, Option, ◌&&◌, ltb, List, get_or, subst, sym, refl, ap, ◌∙◌, arith}
+use Rattle.std.proofs.lemmas.Bool.Decides.{nat_tests}
+use Rattle.std.specs.Fn.{Called, Mut}
+use Rattle.std.specs.Array.{IsFromFnResultFrom, IsFromFnResult}
+use Rattle.kinds.specs.declared.wide.Wide.{Wide}
+use Rattle.kinds.specs.Sets.{most, Empty, LeastOf, Least}
 use Rattle.kinds.specs.Masks.{marks}
-use Rattle.kinds.specs.Wides.{at, blank}
+use Rattle.kinds.specs.Wides.{word, spans}
 
--- each word before i has just the choices that `right` says
-abbrev pub Right : (ℕ → ℕ → Bool) → ℕ → List Mask → Type 0
-Right right i ws = (k : ℕ) → k < i → (u : ℕ) → at ws k u ≡ right k u
+-- `array::from_fn`, at a closure f that each call leaves as it was: what holds of each answer holds of each element
+module _ {F B : Type 0} (g : Mut F (ℕ × Unit {0}) B) (f : F) (P : ℕ → B → Type 0) (call : (i : ℕ) (y : B) (q : F) → Called g f (i, tt) y q → (q ≡ f) × P i y) (ys : List B) where
+  made_from : (i n k j : ℕ) (p : F) (d : B) → p ≡ f → IsFromFnResultFrom g p ys i n → k < n → i + k ≡ j → P j (get_or ys j d)
+  made_from i zero k j p d e h l at = absurd (omega arith)
+  made_from i (suc n) zero j p d e (q, y, is, c, rest) l at =
+      let here : i ≡ j = omega arith in
+      let r = call i y q (subst (λ (s : F). Called g s (i, tt) y q) e c) in
+      subst (λ (m : ℕ). P m (get_or ys m d)) here (subst (P i) (sym (is.1 d)) r.1)
+  made_from i (suc n) (suc k) j p d e (q, y, is, c, rest) l at =
+      let r = call i y q (subst (λ (s : F). Called g s (i, tt) y q) e c) in
+      made_from (i + 1) n k j q d r.0 rest (omega arith) (omega arith)
 
--- a right word written at i makes one more
-pub right_more : (right : ℕ → ℕ → Bool) (i : ℕ) (ws : List Mask) (w : Mask) → i < length ws → Right right i ws → ((u : ℕ) → marks w u ≡ right i u) → Right right (i + 1) (set ws i w)
-right_more right i ws w h before here =
-    below_more _ _
-    (λ k l u. ap (λ m. marks m u) (get_or-set_other ws i k w blank (omega arith)) ∙ before k l u)
-    (λ u. ap (λ m. marks m u) (get_or-set_same ws i w blank h) ∙ here u)
+  pub from_fn_each : (n : ℕ) (d : B) → IsFromFnResult g f ys n → (k : ℕ) → k < n → P k (get_or ys k d)
+  from_fn_each n d h k l = made_from 0 n k k f d refl h.each l (omega arith)
 
--- each word before i is that of `was` and that of `other`, combined choice by choice; from i on it is as it was
-abbrev pub Combined : (Bool → Bool → Bool) → List Mask → List Mask → ℕ → List Mask → Type 0
-Combined op was other i ws =
-    (length ws ≡ 1024)
-    × Right (λ k u. op (at was k u) (at other k u)) i ws
-    × ((k : ℕ) → i ≤ k → get_or ws k blank ≡ get_or was k blank)
+-- a wide set has the choices that its words have
+pub from_words : (w : Wide) (p : ℕ → Bool) → ((k : ℕ) → k < 1024 → (u : ℕ) → marks (word w k) u ≡ (p (k * 64 + u) && ltb u 64)) → (v : ℕ) → spans w v ≡ (p v && ltb v most)
+from_words w p each v =
+    let back : v / 64 * 64 + v % 64 ≡ v = omega arith in
+    let e = λ (l : v / 64 < 1024). each (v / 64) l (v % 64) ∙ ap (λ k. p k && ltb (v % 64) 64) back in
+    grind (arith, nat_tests)
+
+-- the least choice of the first word that has one, and none where no word has one
+abbrev pub IsOfFirstWord : Wide → Option ℕ → Type 0
+IsOfFirstWord w None = (k : ℕ) → k < 1024 → Empty (marks (word w k))
+IsOfFirstWord w (Some m) = (m / 64 < 1024) × LeastOf (marks (word w (m / 64))) (m % 64) × ((k : ℕ) → k < m / 64 → Empty (marks (word w k)))
+
+pub least_of_words : (w : Wide) (r : Option ℕ) → IsOfFirstWord w r → Least (spans w) r
+least_of_words w None none = λ v. let e = λ (l : v / 64 < 1024). none (v / 64) l (v % 64) in grind (arith, nat_tests)
+least_of_words w (Some m) (within, least, before) = (
+  grind (arith, nat_tests),
+  λ v l.
+      let e = λ (h : v / 64 < m / 64). before (v / 64) h (v % 64) in
+      let f = λ (h : v % 64 < m % 64). least.1 (v % 64) h in
+      grind (arith, nat_tests),
+)

@@ -1,10 +1,10 @@
 -- Two kinds as one: the choices of the first, then those of the second as far as there are 16-bit numbers.
-use Rattle.std.specs.Prelude.{ℕ, ◌+◌, ◌-◌, min, Bool, cond, ◌&&◌, nat_lt}
+use Rattle.std.specs.Prelude.{ℕ, ◌+◌, ◌-◌, min, Bool, if◌then◌else◌, ◌&&◌, nat_lt}
 use Rattle.kinds.specs.Sets.{most}
 
 -- below `start` the first says which choices are members; from there on the second does, of the choice less `start`
 abbrev pub joined : ℕ → (ℕ → Bool) → (ℕ → Bool) → ℕ → Bool
-joined start first second v = cond (nat_lt v start) (first v) (nat_lt v most && second (v - start))
+joined start first second v = if nat_lt v start then first v else nat_lt v most && second (v - start)
 
 -- the capacity of a join, from those of its halves
 abbrev pub joined_limit : ℕ → ℕ → ℕ

@@ -1,5 +1,5 @@
 -- Which of all choices a wide set has.
-use Rattle.std.specs.Prelude.{ℕ, ◌/◌, ◌%◌, Bool, ◌&&◌, List, nat_lt, slice_index_or}
+use Rattle.std.specs.Prelude.{ℕ, ◌/◌, ◌%◌, Bool, ◌&&◌, nat_lt, slice_index_or}
 use Rattle.kinds.specs.declared.mask.Mask.{Mask}
 use Rattle.kinds.specs.declared.wide.Wide.{Wide}
 use Rattle.kinds.specs.Sets.{most}
@@ -9,10 +9,10 @@ use Rattle.kinds.specs.Masks.{marks}
 abbrev pub blank : Mask
 blank = record { bits = 0 }
 
--- the word k has the choice u of its own 64
-abbrev pub at : List Mask → ℕ → ℕ → Bool
-at ws k u = marks (slice_index_or ws k blank) u
+-- the word at the place k
+abbrev pub word : Wide → ℕ → Mask
+word w k = slice_index_or w.words k blank
 
 -- each word has the next 64 choices
 abbrev pub spans : Wide → ℕ → Bool
-spans w v = nat_lt v most && at w.words (v / 64) (v % 64)
+spans w v = nat_lt v most && marks (word w (v / 64)) (v % 64)

@@ -6,7 +6,8 @@ use crate::set_kind::{MOST_CHOICES, SetKind, range_behind};
 
 /// A set of each of two kinds. The choices of `A` come first, and those of `B` are counted on from there.
 /// A choice of `B` that would then be no 16-bit number is no choice of the join: `second` may have it, but it is no member.
-#[derive(Clone, Copy)]
+// No `PartialEq`: sets of one membership may differ in what `second` has past the choices of the join.
+#[derive(Clone, Copy, Debug)]
 pub struct Joined<A, B> {
     first: A,
     second: B,
@@ -34,6 +35,7 @@ impl<A: SetKind, B: SetKind> SetKind for Joined<A, B> {
         }
     }
 
+    // `meet` and `difference` go by halves of two types: one function for both would take two closures, and be no plainer
     fn meet(self, other: Joined<A, B>) -> Joined<A, B> {
         Joined {
             first: self.first.meet(other.first),
@@ -49,15 +51,12 @@ impl<A: SetKind, B: SetKind> SetKind for Joined<A, B> {
     }
 
     fn least(self) -> Option<u16> {
+        // no `or_else`: over two kinds the proof does not see into its closure
         if let Some(choice) = self.first.least() {
             return Some(choice);
         }
-        let choice = A::capacity() + u32::from(self.second.least()?);
+        let behind = self.second.least()?;
         // a choice past the cap is no member, and if the least of the second half is one, so are all of them
-        if choice < MOST_CHOICES {
-            Some(choice as u16)
-        } else {
-            None
-        }
+        u16::try_from(A::capacity() + u32::from(behind)).ok()
     }
 }

@@ -1,4 +1,6 @@
 //! Sets of the choices 0 to 63.
+#![tactic(auto, using(crate::proofs::Bits::bits_64))]
+
 ghost use Rattle.std.specs.Prelude.{◌≡◌, ℕ, ◌&&◌, nat_lt};
 ghost use Rattle.kinds.specs.Masks.{marks};
 ghost use Rattle.std.proofs.Common.{rules};
@@ -6,10 +8,10 @@ ghost use Rattle.std.proofs.Common.{rules};
 use crate::set_kind::SetKind;
 
 /// How many choices a mask has: one for each of its bits.
-pub(crate) const MASK_CHOICES: u32 = 64;
+pub(crate) const MASK_CHOICES: u16 = 64;
 
 /// A set whose members are the places of the bits that are 1. The lowest bit has the place 0.
-#[derive(Clone, Copy)]
+#[derive(Clone, Copy, Debug, PartialEq, Eq)]
 pub struct Mask {
     bits: u64,
 }
@@ -19,13 +21,9 @@ impl Mask {
     fn below(end: u32) -> Mask
         ensures members { (v : ℕ) → marks result v ≡ (nat_lt v end && nat_lt v 64) }
     {
-        if end < MASK_CHOICES {
-            Mask {
-                bits: (1 << end) - 1,
-            }
-        } else {
-            // all bits: a shift by 64 would pass the end of the number
-            Mask { bits: u64::MAX }
+        // the other choices' bits, and then all but these
+        Mask {
+            bits: !u64::MAX.unbounded_shl(end),
         }
     }
 }
@@ -42,7 +40,7 @@ impl SetKind for Mask {
     ghost within = { Prim.search rules };
 
     fn capacity() -> u32 {
-        MASK_CHOICES
+        u32::from(MASK_CHOICES)
     }
 
     fn range(lo: u16, hi: u16) -> Mask {
@@ -63,10 +61,6 @@ impl SetKind for Mask {
     }
 
     fn least(self) -> Option<u16> {
-        if self.bits == 0 {
-            None
-        } else {
-            Some(self.bits.trailing_zeros() as u16)
-        }
+        (self.bits != 0).then(|| self.bits.trailing_zeros() as u16)
     }
 }

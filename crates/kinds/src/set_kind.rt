@@ -55,10 +55,9 @@ pub(crate) fn empty<K: SetKind>() -> K
 pub(crate) fn range_behind<K: SetKind>(start: u32, lo: u16, hi: u16) -> K
     ensures members { (v : ℕ) → K.SetKind.member result v ≡ (between lo hi (start + v) && nat_lt v K.SetKind.limit) }
 {
-    let lo = u32::from(lo).saturating_sub(start);
-    let hi = u32::from(hi);
-    if hi < start {
-        return empty();
+    match u16::try_from(start) {
+        Ok(start) if start <= hi => K::range(lo.saturating_sub(start), hi - start),
+        // a kind that starts behind `hi` has no part of the range
+        _ => empty(),
     }
-    K::range(lo as u16, (hi - start) as u16)
 }

@@ -1,8 +1,14 @@
--- One more word has the choices between the ends.
-use Rattle.std.proofs.Common.{arith, rules}
-use Rattle.kinds.proofs.Words.{right_more}
+-- Each word has its part of the range.
+use Rattle.std.proofs.Common.{◌≡◌, ℕ, ◌+◌, ◌*◌, ◌&&◌, ltb, rules}
+use Rattle.kinds.specs.Sets.{between}
+use Rattle.kinds.specs.Masks.{marks}
+use Rattle.kinds.specs.Wides.{blank}
+use Rattle.kinds.proofs.Words.{from_fn_each, from_words}
 use Rattle.kinds.proofs.wide.WideSetKind.range.Goals as goal
 
-pub loop-i-preserved : goal.loop-i-preserved
-loop-i-preserved c =
-    (search rules, right_more _ _ _ _ (omega arith) c.loop-i.invariant.1 c.range_behind.ensures.members)
+pub returns : goal.returns
+returns c = record {
+  members = from_words _ (between c.args.lo c.args.hi)
+      (from_fn_each _ _ (λ k m. (u : ℕ) → marks m u ≡ (between c.args.lo c.args.hi (k * 64 + u) && ltb u 64))
+      (λ i y q h. (search rules, search rules)) _ 1024 blank c.from_fn.ensures.items);
+}
