@@ -1,10 +1,20 @@
 //! A line of each kind, and answers as they are said.
+use lines::calls::{Call, LineError};
 use lines::reading::read_line;
 use lines::words::echo;
 use promises::refusals::Refusal;
 use script::answers::Answer;
 use script::saying::say;
+use std::alloc::{AllocError, Global};
 use std::test::Fail;
+
+fn in_words(alloc: Global, read: Result<Option<Call>, LineError>) -> Result<String, AllocError> {
+    match read {
+        Ok(None) => String::from_str(alloc, "Blank"),
+        Ok(Some(call)) => format!(in alloc; "Call({call:?})"),
+        Err(error) => format!(in alloc; "{error:?}"),
+    }
+}
 
 #[test]
 fn lines_are_read(rt: HostRuntime) -> Result<(), Fail> {
@@ -24,13 +34,8 @@ fn lines_are_read(rt: HostRuntime) -> Result<(), Fail> {
         ("judge one", "NotACall(Judge)"),
     ];
     for (text, read) in cases {
-        let line = read_line(rt.alloc(), text)?;
-        assert_eq!(rt;
-            format!(in rt.alloc(); "{line:?}")?.as_str(),
-            read,
-            "{}",
-            text
-        );
+        let line = in_words(rt.alloc(), read_line(rt.alloc(), text))?;
+        assert_eq!(rt; line.as_str(), read, "{}", text);
     }
     Ok(())
 }
@@ -45,18 +50,18 @@ fn words_are_echoed(rt: HostRuntime) -> Result<(), Fail> {
 fn answers_are_said(rt: HostRuntime) -> Result<(), Fail> {
     let code = [3, 0, 0, 171].to_vec(rt.alloc())?;
     assert_eq!(rt;
-        say(rt.alloc(), &Answer::Code(code))?.as_str(),
+        say(rt.alloc(), &Ok(Answer::Code(code)))?.as_str(),
         "code 03 00 00 ab"
     );
     let cases = [
-        (Answer::Setting(0), "setting 0"),
-        (Answer::Verdict(true), "yes"),
+        (Ok(Answer::Setting(0)), "setting 0"),
+        (Ok(Answer::Verdict(true)), "yes"),
         (
-            Answer::Refused(Refusal::SizeZero),
+            Err(Refusal::SizeZero),
             "refused 1: a setting needs at least one choice",
         ),
         (
-            Answer::Refused(Refusal::NotAChoice(4)),
+            Err(Refusal::NotAChoice(4)),
             "refused 22 at 4: the setting has no such choice",
         ),
     ];

@@ -1,10 +1,10 @@
--- What the calls of a script ask for, with plain lists for the code's vectors.
-use Rattle.std.specs.Prelude.{ℕ, List, vec_items}
+-- What the calls of a script ask for, with plain lists for the code's vectors, and what a line may be read as.
+use Rattle.std.specs.Prelude.{◌≡◌, ℕ, List, Some, None, Ok, Err, vec_items, Option, Result}
 use Rattle.lines.specs.declared.calls.Call.{Call}
 use Rattle.lines.specs.declared.calls.Call.TheVariants.{Declare, Lay, Write, Judge}
 use Rattle.lines.specs.declared.calls.Expected.{Expected}
-use Rattle.lines.specs.declared.calls.Line.{Line}
-use Rattle.lines.specs.declared.calls.Line.TheVariants as lines
+use Rattle.lines.specs.declared.calls.LineError.{LineError}
+use Rattle.lines.specs.declared.calls.LineError.TheVariants.{NotACall, Memory}
 
 pub data Request : Type 0 where
   declare : (size : ℕ) → Request
@@ -23,7 +23,22 @@ pub data Meaning : Type 0 where
   a_call : Request → Meaning
   not_a_call : Expected → Meaning
 
-abbrev pub meaning : Line → Meaning
-meaning lines.Blank = blank
-meaning (lines.Call c) = a_call (request_of c)
-meaning (lines.NotACall e) = not_a_call e
+-- what the call says that was read, or none
+abbrev pub meaning : Option Call → Meaning
+meaning None = blank
+meaning (Some c) = a_call (request_of c)
+
+-- the error says what was expected; where memory ran out, nothing is said
+abbrev pub FailsAs : Meaning → LineError → Type 0
+FailsAs m (NotACall e) = m ≡ not_a_call e
+FailsAs m (Memory e) = Unit {0}
+
+-- a line that names a call and has the meaning m is read as r
+abbrev pub CallReadAs : Meaning → Result Call LineError → Type 0
+CallReadAs m (Ok c) = m ≡ a_call (request_of c)
+CallReadAs m (Err e) = FailsAs m e
+
+-- any line with the meaning m is read as r
+abbrev pub ReadAs : Meaning → Result (Option Call) LineError → Type 0
+ReadAs m (Ok o) = m ≡ meaning o
+ReadAs m (Err e) = FailsAs m e

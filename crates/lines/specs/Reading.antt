@@ -1,5 +1,5 @@
 -- What a line is read as.
-use Rattle.std.specs.Prelude.{ℕ, cond, List, [], ◌∷◌, Some, None, codes, Option, ◌==◌, slice_index}
+use Rattle.std.specs.Prelude.{ℕ, if◌then◌else◌, List, [], ◌∷◌, Some, None, codes, Option, ◌==◌, slice_index}
 use Rattle.std.specs.Option.{option_map}
 use Rattle.std.specs.Str.{bytes_eq}
 use Rattle.lines.specs.declared.calls.Expected.{Expected}
@@ -45,16 +45,16 @@ read_as e (Some r) = a_call r
 -- what the first word and its operands say
 abbrev pub call_of : List ℕ → List (List ℕ) → Meaning
 call_of name ws =
-    cond (bytes_eq name (codes "declare")) (read_as Declare (declare_of ws))
-    (cond (bytes_eq name (codes "lay")) (read_as Lay (lay_of ws))
-    (cond (bytes_eq name (codes "write")) (read_as Write (write_of ws))
-    (cond (bytes_eq name (codes "judge")) (read_as Judge (judge_of ws))
-    (read_as Call None))))
+    if bytes_eq name (codes "declare") then read_as Declare (declare_of ws)
+    else if bytes_eq name (codes "lay") then read_as Lay (lay_of ws)
+    else if bytes_eq name (codes "write") then read_as Write (write_of ws)
+    else if bytes_eq name (codes "judge") then read_as Judge (judge_of ws)
+    else read_as Call None
 
 -- a first word that begins with # makes the line a remark
 abbrev pub words_say : List (List ℕ) → Meaning
 words_say [] = blank
-words_say (w ∷ ws) = cond (slice_index w 0 == 35) blank (call_of w ws)
+words_say (w ∷ ws) = if slice_index w 0 == 35 then blank else call_of w ws
 
 abbrev pub line_of : List ℕ → Meaning
 line_of line = words_say (words_of line)

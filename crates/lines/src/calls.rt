@@ -1,6 +1,11 @@
-//! The calls that a line can make, and what was expected where it makes none.
-ghost use Rattle.std.specs.Prelude.{◌≡◌};
-ghost use Rattle.lines.specs.Expected.{expected_text};
+//! The calls that a line can make, and why a line is none.
+ghost use Rattle.std.specs.Prelude.{◌≡◌, Some};
+ghost use Rattle.lines.specs.Expected.{expected_text, line_error_text};
+ghost use Rattle.lines.specs.declared.calls.LineError.TheVariants.{NotACall, Memory};
+
+use std::alloc::AllocError;
+use std::error::Error;
+use std::fmt;
 
 /// A call of a rule book.
 #[derive(Debug, Drop)]
@@ -13,7 +18,7 @@ pub enum Call {
 }
 
 /// What should have stood on a line: any call, or the operands of the call that it names.
-#[derive(Clone, Copy, PartialEq, Debug)]
+#[derive(Clone, Copy, Debug, PartialEq, Eq, Hash)]
 pub enum Expected {
     Call,
     Declare,
@@ -37,11 +42,46 @@ impl Expected {
     }
 }
 
-/// What a line of a script is.
-#[derive(Debug, Drop)]
-pub enum Line {
-    /// No words, or a remark.
-    Blank,
-    Call(Call),
+impl fmt::Display for Expected {
+    ghost output = { λ e. Some (expected_text e) };
+
+    fn fmt<W: fmt::Write>(&self, f: &mut fmt::Formatter<W>) -> fmt::Result {
+        f.write_str(self.text())
+    }
+}
+
+/// Why a line was not read into a call.
+#[derive(Clone, Copy, Debug, PartialEq, Eq)]
+pub enum LineError {
     NotACall(Expected),
+    Memory(AllocError),
+}
+
+impl fmt::Display for LineError {
+    ghost output = { λ e. Some (line_error_text e) };
+
+    fn fmt<W: fmt::Write>(&self, f: &mut fmt::Formatter<W>) -> fmt::Result {
+        match self {
+            LineError::NotACall(expected) => write!(f, "{expected}"),
+            LineError::Memory(_) => f.write_str("memory allocation failed"),
+        }
+    }
+}
+
+impl Error for LineError {}
+
+impl From<Expected> for LineError {
+    ghost from_gives = { λ expected e. e ≡ NotACall expected };
+
+    fn from(expected: Expected) -> LineError {
+        LineError::NotACall(expected)
+    }
+}
+
+impl From<AllocError> for LineError {
+    ghost from_gives = { λ error e. e ≡ Memory error };
+
+    fn from(error: AllocError) -> LineError {
+        LineError::Memory(error)
+    }
 }

@@ -1,7 +1,7 @@
 //! The operands of a call: bytes in hexadecimal, and decimal numbers.
-ghost use Rattle.std.specs.Prelude.{◌≡◌, ℕ, ◌<◌, List, IfSome, IfOk, vec_items, Option};
+ghost use Rattle.std.specs.Prelude.{◌≡◌, ℕ, List, IfOk, vec_items, Option};
 ghost use Rattle.std.specs.Option.{option_map};
-ghost use Rattle.lines.specs.Operands.{digit_of, byte_of, number_of, each_of};
+ghost use Rattle.lines.specs.Operands.{byte_of, number_of, each_of};
 ghost use Rattle.lines.specs.Words.{texts};
 
 use std::alloc::{AllocError, Global};
@@ -14,31 +14,17 @@ pub trait Operand {
         ensures value { result ≡ reads word.now };
 }
 
-fn digit_value(byte: u8) -> Option<u8>
-    ensures value { result ≡ digit_of byte }
-    ensures small { IfSome result (λ digit. digit < 16) }
-{
-    match byte {
-        b'0'..=b'9' => Some(byte - b'0'),
-        b'a'..=b'f' => Some(byte - b'a' + 10),
-        b'A'..=b'F' => Some(byte - b'A' + 10),
-        _ => None,
-    }
-}
-
 /// Two hexadecimal digits.
 impl Operand for u8 {
     ghost reads = { byte_of };
 
     fn read(word: &str) -> Option<u8> {
-        match word.as_bytes() {
-            [high, low] => {
-                let high = digit_value(*high)?;
-                let low = digit_value(*low)?;
-                Some(16 * high + low)
-            }
-            _ => None,
-        }
+        let [high, low] = word.as_bytes() else {
+            return None;
+        };
+        let high = char::from(*high).to_digit(16)?;
+        let low = char::from(*low).to_digit(16)?;
+        Some((16 * high + low) as u8)
     }
 }
 
@@ -50,18 +36,19 @@ impl Operand for u16 {
         if word.starts_with('+') {
             return None;
         }
-        word.parse::<u16>().ok()
+        word.parse().ok()
     }
 }
 
 /// All words read as operands, if each can be.
+// A loop, since no clause of `collect` says that it gives none where a word gives none.
 pub fn read_each<T: Operand + Drop>(
-    heap: Global,
+    alloc: Global,
     words: &[&str],
 ) -> Result<Option<Vec<T>>, AllocError>
     ensures values { IfOk result (λ o. option_map vec_items o ≡ each_of T.Operand.reads (texts words.now)) }
 {
-    let mut operands = Vec::new(heap);
+    let mut operands = Vec::new(alloc);
     for word in words {
         let Some(operand) = T::read(word) else {
             return Ok(None);

@@ -1,31 +1,16 @@
 //! The words of a line, and the line with single spaces between them.
 ghost use Rattle.std.specs.Prelude.{◌≡◌, [], ◌∷◌, ◌++◌, IfOk, string_bytes, OnOk};
-ghost use Rattle.lines.specs.Words.{texts, filled, words_of, spaced};
+ghost use Rattle.lines.specs.Words.{texts, words_of, spaced};
 
 use std::alloc::{AllocError, Global};
 
-/// Adds the piece to the words, unless it is empty.
-fn add_piece<'a>(words: &mut Vec<&'a str>, piece: &'a str) -> Result<(), AllocError>
-    ensures words { OnOk result (texts words.new.items ≡ texts words.old.items ++ filled (piece.now ∷ [])) }
-{
-    if !piece.is_empty() {
-        words.push(piece)?;
-    }
-    Ok(())
-}
-
 /// The line's words.
-pub(crate) fn split_words<'a>(heap: Global, line: &'a str) -> Result<Vec<&'a str>, AllocError>
+pub(crate) fn split_words<'a>(alloc: Global, line: &'a str) -> Result<Vec<&'a str>, AllocError>
     ensures words { IfOk result (λ v. texts v.items ≡ words_of line.now) }
 {
-    let mut words = Vec::new(heap);
-    let mut rest = line;
-    while let Some((piece, after)) = rest.split_once(' ') {
-        add_piece(&mut words, piece)?;
-        rest = after;
-    }
-    add_piece(&mut words, rest)?;
-    Ok(words)
+    line.split(' ')
+        .filter(|piece| !piece.is_empty())
+        .collect(alloc)
 }
 
 /// Adds a space and the word to the text.
@@ -37,13 +22,13 @@ fn add_word(text: &mut String, word: &str) -> Result<(), AllocError>
     Ok(())
 }
 
-fn spaced_text(heap: Global, words: &[&str]) -> Result<String, AllocError>
+fn spaced_text(alloc: Global, words: &[&str]) -> Result<String, AllocError>
     ensures bytes { IfOk result (λ s. string_bytes s ≡ spaced (texts words.now)) }
 {
     let Some((first, others)) = words.split_first() else {
-        return Ok(String::new(heap));
+        return Ok(String::new(alloc));
     };
-    let mut text = String::from_str(heap, first)?;
+    let mut text = String::from_str(alloc, first)?;
     for word in others {
         add_word(&mut text, word)?;
     }
@@ -51,9 +36,9 @@ fn spaced_text(heap: Global, words: &[&str]) -> Result<String, AllocError>
 }
 
 /// The line's words with single spaces between them.
-pub fn echo(heap: Global, line: &str) -> Result<String, AllocError>
+pub fn echo(alloc: Global, line: &str) -> Result<String, AllocError>
     ensures words { IfOk result (λ s. string_bytes s ≡ spaced (words_of line.now)) }
 {
-    let words = split_words(heap, line)?;
-    spaced_text(heap, words.as_slice())
+    let words = split_words(alloc, line)?;
+    spaced_text(alloc, words.as_slice())
 }

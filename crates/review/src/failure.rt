@@ -1,4 +1,5 @@
 //! What ends a script before its last line.
+use lines::calls::Expected;
 use std::alloc::AllocError;
 use std::io;
 use thiserror::Error;
@@ -8,15 +9,9 @@ pub enum Failure {
     #[error("usage: review [FILE]")]
     Usage,
     #[error("cannot read {path}: {error}")]
-    Unreadable {
-        path: String,
-        error: io::Error,
-    },
+    Unreadable { path: String, error: io::Error },
     #[error("line {number}: {expected}")]
-    NoCall {
-        number: usize,
-        expected: &'static str,
-    },
+    NoCall { number: usize, expected: Expected },
     #[error("{0}")]
     Memory(#[from] AllocError),
     #[error("{0}")]

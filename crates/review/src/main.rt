@@ -1,38 +1,36 @@
 //! review [FILE]: plays a script of calls on one book from new, or the built-in page where no file is named.
 #![tactic(auto)]
 
-ghost use Rattle.std.specs.Prelude.{OnOk, OnErr};
+ghost use Rattle.std.specs.Prelude.{Ok, Option, OnOk, String};
+ghost use Rattle.std.specs.declared.alloc.Global.{Global};
 ghost use Rattle.book.specs.View.{page_of};
-ghost use Rattle.script.specs.Playing.{GoesOn, Plays, Leaves};
+ghost use Rattle.script.specs.Playing.{Plays, Leaves};
 ghost use Rattle.lines.specs.Reading.{line_of};
-ghost use Rattle.script.specs.declared.answers.Played.{Played};
 
 mod failure;
 mod page;
 
 use book::book::Book;
 use failure::Failure;
+use lines::calls::LineError;
 use page::PAGE;
-use script::answers::Played;
 use script::playing::play_line;
 use std::process::ExitCode;
 use std::{env, fs, io};
 
 /// Plays a line and prints what it gave; a line that is no call ends the script.
 fn play(rt: &HostRuntime, book: &mut Book, number: usize, line: &str) -> Result<(), Failure>
-    ensures plays { OnOk result (GoesOn (line_of line.now) × ((d : Played) × Plays (page_of book.old) line.now (line_of line.now) d (page_of book.new))) }
-    ensures leaves { OnErr result (Leaves (page_of book.old) (line_of line.now) (page_of book.new)) }
+    ensures plays { OnOk result ((shown : Option (String Global)) × Plays (page_of book.old) line.now (line_of line.now) (Ok shown) (page_of book.new)) }
+    ensures leaves { Leaves (page_of book.old) (line_of line.now) (page_of book.new) }
 {
-    match play_line(rt.alloc(), book, line)? {
-        Played::Nothing => Ok(()),
-        Played::Shown(text) => {
+    match play_line(rt.alloc(), book, line) {
+        Ok(None) => Ok(()),
+        Ok(Some(text)) => {
             println!(rt; "{text}")?;
             Ok(())
         }
-        Played::Stopped(expected) => Err(Failure::NoCall {
-            number,
-            expected: expected.text(),
-        }),
+        Err(LineError::NotACall(expected)) => Err(Failure::NoCall { number, expected }),
+        Err(LineError::Memory(error)) => Err(Failure::Memory(error)),
     }
 }
 
@@ -51,9 +49,7 @@ fn read_script(rt: &HostRuntime, path: &str) -> Result<String, Failure> {
 fn play_script(rt: &HostRuntime, path: &str) -> Result<(), Failure> {
     let text = read_script(rt, path)?;
     let mut book = Book::new();
-    let mut number = 0usize;
-    for line in text.lines() {
-        number = number.saturating_add(1);
+    for (number, line) in (1..).zip(text.lines()) {
         play(rt, &mut book, number, line)?;
     }
     Ok(())
@@ -64,9 +60,11 @@ fn play_page(rt: &HostRuntime) -> Result<(), Failure> {
     let mut book = Book::new();
     for (index, step) in PAGE.iter().enumerate() {
         println!(rt; "{}", step.note)?;
-        play(rt, &mut book, index, step.line)?;
-        if !step.meaning.is_empty() {
-            println!(rt; "  {}", step.meaning)?;
+        if let Some(line) = step.line {
+            play(rt, &mut book, index, line)?;
+        }
+        if let Some(meaning) = step.meaning {
+            println!(rt; "  {meaning}")?;
         }
         println!(rt)?;
     }

@@ -1,5 +1,6 @@
 -- What a call that is made on a book answers, and what a line that is played leaves.
-use Rattle.std.specs.Prelude.{◌≡◌, ℕ, Bool, ◌⊎◌, List, ◌∷◌, ◌++◌, length, take, Some, None, Ok, Err, vec_items, string_bytes, codes, Option, Result}
+use Rattle.std.specs.Prelude.{◌≡◌, ℕ, Bool, ◌⊎◌, List, ◌∷◌, ◌++◌, length, take, Some, None, Ok, Err, vec_items, string_bytes, codes, Option, Result, IsOkAnd, String}
+use Rattle.std.specs.Result.{result_map_both}
 use Rattle.promises.specs.declared.refusals.Refusal.{Refusal}
 use Rattle.promises.specs.Refusals.{told}
 use Rattle.promises.specs.Page.{Page}
@@ -8,25 +9,16 @@ use Rattle.promises.specs.Laying.{LayGives}
 use Rattle.promises.specs.Writing.{WriteOutGives}
 use Rattle.promises.specs.Judging.{JudgeGives}
 use Rattle.script.specs.declared.answers.Answer.{Answer}
-use Rattle.script.specs.declared.answers.Answer.TheVariants.{Setting, Rule, Code, Verdict, Refused}
-use Rattle.script.specs.declared.answers.Played.{Played}
-use Rattle.script.specs.declared.answers.Played.TheVariants.{Nothing, Shown, Stopped}
+use Rattle.script.specs.declared.answers.Answer.TheVariants.{Setting, Rule, Code, Verdict}
+use Rattle.lines.specs.declared.calls.LineError.{LineError}
+use Rattle.lines.specs.declared.calls.LineError.TheVariants.{NotACall, Memory}
 use Rattle.lines.specs.Calls.{Request, declare, lay, write, judge, Meaning, blank, a_call, not_a_call}
 use Rattle.script.specs.Saying.{said}
 use Rattle.lines.specs.Words.{words_of, spaced}
 
--- what each call's result is answered by
-abbrev pub setting_answer : Result ℕ Refusal → Answer
-setting_answer (Ok n) = Setting n
-setting_answer (Err e) = Refused e
-
-abbrev pub rule_answer : Result ℕ Refusal → Answer
-rule_answer (Ok n) = Rule n
-rule_answer (Err e) = Refused e
-
-abbrev pub verdict_answer : Result Bool Refusal → Answer
-verdict_answer (Ok b) = Verdict b
-verdict_answer (Err e) = Refused e
+-- what the book gave, as an answer
+abbrev pub answered : {A : Type 0} → (A → Answer) → Result A Refusal → Result Answer Refusal
+answered answer r = result_map_both answer (λ refusal. refusal) r
 
 -- the bytes of a code that an answer has
 abbrev pub code_bytes : Answer → Option (List ℕ)
@@ -34,15 +26,14 @@ code_bytes (Setting n) = None
 code_bytes (Rule n) = None
 code_bytes (Code v) = Some (vec_items v)
 code_bytes (Verdict b) = None
-code_bytes (Refused e) = None
 
 -- the answer where a rule was written into a buffer that holds these bytes then
-abbrev pub CodeAnswer : Result ℕ Refusal → List ℕ → Answer → Type 0
-CodeAnswer (Ok n) buffer a = code_bytes a ≡ Some (take n buffer)
-CodeAnswer (Err e) buffer a = a ≡ Refused e
+abbrev pub CodeAnswer : Result ℕ Refusal → List ℕ → Result Answer Refusal → Type 0
+CodeAnswer (Ok n) buffer a = IsOkAnd a (λ answer. code_bytes answer ≡ Some (take n buffer))
+CodeAnswer (Err e) buffer a = a ≡ Err e
 
 -- a rule is written into some buffer with that room
-pub record Writes (p : Page) (rule room : ℕ) (a : Answer) : Type 0 where
+pub record Writes (p : Page) (rule room : ℕ) (a : Result Answer Refusal) : Type 0 where
   pub before : List ℕ
   pub after : List ℕ
   pub result : Result ℕ Refusal
@@ -51,41 +42,29 @@ pub record Writes (p : Page) (rule room : ℕ) (a : Answer) : Type 0 where
   pub answer : CodeAnswer result after a
 
 -- the call is made on a book of the page p, is answered by a, and leaves p'
-abbrev pub Performs : Page → Request → Answer → Page → Type 0
-Performs p (declare size) a p' = (r : Result ℕ Refusal) × (a ≡ setting_answer r) × DeclareGives p size (told r) p'
-Performs p (lay code) a p' = (r : Result ℕ Refusal) × (a ≡ rule_answer r) × LayGives p code (told r) p'
+abbrev pub Performs : Page → Request → Result Answer Refusal → Page → Type 0
+Performs p (declare size) a p' = (r : Result ℕ Refusal) × (a ≡ answered Setting r) × DeclareGives p size (told r) p'
+Performs p (lay code) a p' = (r : Result ℕ Refusal) × (a ≡ answered Rule r) × LayGives p code (told r) p'
 Performs p (write rule room) a p' = Writes p rule room a × (p' ≡ p)
-Performs p (judge row) a p' = (r : Result Bool Refusal) × (a ≡ verdict_answer r) × JudgeGives p row (told r) × (p' ≡ p)
+Performs p (judge row) a p' = (r : Result Bool Refusal) × (a ≡ answered Verdict r) × JudgeGives p row (told r) × (p' ≡ p)
 
 -- how a line and its answer are shown: the line's words behind `> `, and the answer on a line of its own, two spaces in
-abbrev pub shown : List ℕ → Answer → List ℕ
+abbrev pub shown : List ℕ → Result Answer Refusal → List ℕ
 shown line a = codes "> " ++ (spaced (words_of line) ++ (10 ∷ codes "  " ++ said a))
 
--- the text of a line that was played
-abbrev pub text_of : Played → Option (List ℕ)
-text_of Nothing = None
-text_of (Shown text) = Some (string_bytes text)
-text_of (Stopped e) = None
-
--- a line after which a script goes on
-abbrev pub GoesOn : Meaning → Type 0
-GoesOn blank = Unit {0}
-GoesOn (a_call q) = Unit {0}
-GoesOn (not_a_call e) = ⊥
-
--- what playing a line does to a page: nothing, unless the line is a call
-abbrev pub Plays : Page → List ℕ → Meaning → Played → Page → Type 0
-Plays p line blank d p' = (d ≡ Nothing) × (p' ≡ p)
-Plays p line (a_call q) d p' = (a : Answer) × (text_of d ≡ Some (shown line a)) × Performs p q a p'
-Plays p line (not_a_call e) d p' = (d ≡ Stopped e) × (p' ≡ p)
-
--- the line is a call, and p' is what making it on a book of the page p leaves
-pub record Made (p : Page) (m : Meaning) (p' : Page) : Type 0 where
+-- the line is a call, and making it on a book of the page p is answered by a and leaves p'
+pub record Made (p : Page) (m : Meaning) (a : Result Answer Refusal) (p' : Page) : Type 0 where
   pub request : Request
-  pub answer : Answer
   pub is_call : m ≡ a_call request
-  pub performs : Performs p request answer p'
+  pub performs : Performs p request a p'
 
--- what a line leaves whose answer could not be shown: the page as it was, or as its call leaves it
+-- what playing a line that means m gives: a call is made and shown, and any other line leaves the page as it was; where memory ran out, `Leaves` says what is left
+abbrev pub Plays : {A : Type 0} → Page → List ℕ → Meaning → Result (Option (String A)) LineError → Page → Type 0
+Plays p line m (Ok None) p' = (m ≡ blank) × (p' ≡ p)
+Plays p line m (Ok (Some text)) p' = (a : Result Answer Refusal) × Made p m a p' × (string_bytes text ≡ shown line a)
+Plays p line m (Err (NotACall e)) p' = (m ≡ not_a_call e) × (p' ≡ p)
+Plays p line m (Err (Memory e)) p' = Unit {0}
+
+-- what a line leaves, also where its answer could not be shown: the page as it was, or as its call leaves it
 abbrev pub Leaves : Page → Meaning → Page → Type 0
-Leaves p m p' = (p' ≡ p) ⊎ Made p m p'
+Leaves p m p' = (p' ≡ p) ⊎ ((a : Result Answer Refusal) × Made p m a p')

@@ -1,9 +1,12 @@
-//! The answers of a book's calls, and what playing a line comes to.
-use lines::calls::Expected;
-use promises::refusals::Refusal;
+//! The answers of a book's calls.
+ghost use Rattle.std.specs.Prelude.{Some};
+ghost use Rattle.std.specs.Fmt.{WritesOnOk};
+ghost use Rattle.script.specs.Saying.{code_said, answer_said};
 
-/// What a call of a book gave.
-#[derive(Drop)]
+use std::fmt;
+
+/// What a call of a book gave that was not refused.
+#[derive(Debug, Drop)]
 pub enum Answer {
     /// The number of the setting that was declared.
     Setting(u8),
@@ -12,16 +15,29 @@ pub enum Answer {
     /// The code that was written out.
     Code(Vec<u8>),
     Verdict(bool),
-    Refused(Refusal),
 }
 
-/// What playing a line comes to.
-#[derive(Drop)]
-pub enum Played {
-    /// The line was passed over.
-    Nothing,
-    /// The line and its answer, as they are shown.
-    Shown(String),
-    /// The line is no call, and the script ends there.
-    Stopped(Expected),
+/// Writes the code's bytes, each behind a space in two hexadecimal digits.
+fn write_code<W: fmt::Write>(f: &mut fmt::Formatter<W>, code: &[u8]) -> fmt::Result
+    ensures writes { WritesOnOk W.write_str_gives f.old result (code_said code.now) f.new }
+{
+    f.write_str("code")?;
+    for byte in code {
+        write!(f, " {byte:02x}")?;
+    }
+    Ok(())
+}
+
+impl fmt::Display for Answer {
+    ghost output = { λ answer. Some (answer_said answer) };
+
+    fn fmt<W: fmt::Write>(&self, f: &mut fmt::Formatter<W>) -> fmt::Result {
+        match self {
+            Answer::Setting(number) => write!(f, "setting {number}"),
+            Answer::Rule(number) => write!(f, "rule {number}"),
+            Answer::Code(code) => write_code(f, code.as_slice()),
+            Answer::Verdict(true) => f.write_str("yes"),
+            Answer::Verdict(false) => f.write_str("no"),
+        }
+    }
 }

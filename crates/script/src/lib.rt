@@ -3,5 +3,4 @@
 
 pub mod answers;
 pub mod playing;
-mod reasons;
 pub mod saying;

@@ -3,83 +3,62 @@ ghost use Rattle.std.specs.Prelude.{◌≡◌, IfOk, OnErr};
 ghost use Rattle.book.specs.View.{page_of};
 ghost use Rattle.lines.specs.Calls.{request_of};
 ghost use Rattle.lines.specs.Reading.{line_of};
-ghost use Rattle.script.specs.Playing.{setting_answer, rule_answer, verdict_answer, Writes, Performs, Plays, Leaves};
+ghost use Rattle.script.specs.Playing.{Writes, Performs, Plays, Leaves};
 
-use crate::answers::{Answer, Played};
+use crate::answers::Answer;
 use crate::saying::say;
 use book::book::Book;
-use lines::calls::{Call, Line};
+use lines::calls::{Call, LineError};
 use lines::reading::read_line;
 use lines::words::echo;
 use promises::refusals::Refusal;
 use std::alloc::{AllocError, Global};
 
-fn answer_declare(given: Result<u8, Refusal>) -> Answer
-    ensures value { result ≡ setting_answer given }
-{
-    match given {
-        Ok(setting) => Answer::Setting(setting),
-        Err(refusal) => Answer::Refused(refusal),
-    }
-}
-
-fn answer_lay(given: Result<u16, Refusal>) -> Answer
-    ensures value { result ≡ rule_answer given }
-{
-    match given {
-        Ok(rule) => Answer::Rule(rule),
-        Err(refusal) => Answer::Refused(refusal),
-    }
-}
-
-fn answer_judge(given: Result<bool, Refusal>) -> Answer
-    ensures value { result ≡ verdict_answer given }
-{
-    match given {
-        Ok(verdict) => Answer::Verdict(verdict),
-        Err(refusal) => Answer::Refused(refusal),
-    }
-}
-
 /// Writes the rule into a new buffer with so much room, and keeps its code.
-fn write_out(heap: Global, book: &Book, rule: u16, room: u16) -> Result<Answer, AllocError>
+fn write_out(
+    alloc: Global,
+    book: &Book,
+    rule: u16,
+    room: u16,
+) -> Result<Result<Answer, Refusal>, AllocError>
     ensures gives { IfOk result (Writes (page_of book.now) rule room) }
 {
-    let mut buffer = vec![in heap; 0u8; room as usize]?;
+    let mut buffer = vec![in alloc; 0u8; usize::from(room)]?;
     match book.write_out(rule, &mut buffer) {
         Ok(length) => {
             buffer.truncate(length);
-            Ok(Answer::Code(buffer))
+            Ok(Ok(Answer::Code(buffer)))
         }
-        Err(refusal) => Ok(Answer::Refused(refusal)),
+        Err(refusal) => Ok(Err(refusal)),
     }
 }
 
-/// Makes the call on the book.
-pub fn perform(heap: Global, book: &mut Book, call: &Call) -> Result<Answer, AllocError>
+/// Makes the call on the book. A refusal is what the book gave, and is no failure of the call.
+pub fn perform(
+    alloc: Global,
+    book: &mut Book,
+    call: &Call,
+) -> Result<Result<Answer, Refusal>, AllocError>
     ensures gives { IfOk result (λ a. Performs (page_of book.old) (request_of call.now) a (page_of book.new)) }
     ensures kept { OnErr result (page_of book.new ≡ page_of book.old) }
 {
     match call {
-        Call::Declare { size } => Ok(answer_declare(book.declare(*size))),
-        Call::Lay { code } => Ok(answer_lay(book.lay(code.as_slice()))),
-        Call::Write { rule, room } => write_out(heap, book, *rule, *room),
-        Call::Judge { row } => Ok(answer_judge(book.judge(row.as_slice()))),
+        Call::Declare { size } => Ok(book.declare(*size).map(Answer::Setting)),
+        Call::Lay { code } => Ok(book.lay(code.as_slice()).map(Answer::Rule)),
+        Call::Write { rule, room } => write_out(alloc, book, *rule, *room),
+        Call::Judge { row } => Ok(book.judge(row.as_slice()).map(Answer::Verdict)),
     }
 }
 
-/// Plays one line of a script on the book.
-pub fn play_line(heap: Global, book: &mut Book, line: &str) -> Result<Played, AllocError>
-    ensures plays { IfOk result (λ d. Plays (page_of book.old) line.now (line_of line.now) d (page_of book.new)) }
-    ensures leaves { OnErr result (Leaves (page_of book.old) (line_of line.now) (page_of book.new)) }
+/// Plays one line of a script on the book, and gives what is shown of it: nothing where it is passed over.
+pub fn play_line(alloc: Global, book: &mut Book, line: &str) -> Result<Option<String>, LineError>
+    ensures plays { Plays (page_of book.old) line.now (line_of line.now) result (page_of book.new) }
+    ensures leaves { Leaves (page_of book.old) (line_of line.now) (page_of book.new) }
 {
-    match read_line(heap, line)? {
-        Line::Blank => Ok(Played::Nothing),
-        Line::Call(call) => {
-            let words = echo(heap, line)?;
-            let answer = say(heap, &perform(heap, book, &call)?)?;
-            Ok(Played::Shown(format!(in heap; "> {words}\n  {answer}")?))
-        }
-        Line::NotACall(expected) => Ok(Played::Stopped(expected)),
-    }
+    let Some(call) = read_line(alloc, line)? else {
+        return Ok(None);
+    };
+    let words = echo(alloc, line)?;
+    let answer = say(alloc, &perform(alloc, book, &call)?)?;
+    Ok(Some(format!(in alloc; "> {words}\n  {answer}")?))
 }

@@ -1,16 +1,10 @@
--- Each turn cuts one piece off the line.
-use Rattle.std.proofs.Common.{Some, None, vec_items, arith, rules}
-use Rattle.std.proofs.lemmas.Str.Pattern.{split_parts}
-use Rattle.lines.specs.Words.{texts}
-use Rattle.lines.proofs.Cutting.{one_more, last_one}
+-- The pieces between the spaces, without the empty ones.
+use Rattle.std.proofs.Common.{List, ℕ, eqb, not, length, lit<, rules, tests}
+use Rattle.std.proofs.lemmas.Iterator.Consumers.{YieldsList-at, YieldsList-from_filter, map_from_collect}
+use Rattle.std.proofs.lemmas.Iterator.Splits.{YieldsList-from_str_split}
 use Rattle.lines.proofs.words.split_words.Goals as goal
-
-pub loop-piece-preserved : goal.loop-piece-preserved
-loop-piece-preserved c =
-    let parts = split_parts 32 c.loop-piece.rest.now (Some (c.in-Some.piece, c.in-Some.after)) c.in-Some.ensures.cases (omega arith) in
-    (search rules, one_more {found' = texts (vec_items c.add_piece.new.words)} c.loop-piece.invariant.1 _ _ parts.0 parts.1 c.in_ok-add_piece.ensures.words)
 
 pub returns : goal.returns
 returns c =
-    let none = split_parts 32 c.loop-piece.rest.now None c.in_default.ensures.cases (omega arith) in
-    record { words = last_one {found' = texts (vec_items c.add_piece-2.new.words)} c.loop-piece.invariant.1 none c.in_ok-add_piece-2.ensures.words }
+    let cut = YieldsList-from_str_split 32 c.args.line.now (lit< tt) c.split.ensures.text c.split.ensures.has_more c.split.ensures.pattern in
+    record { words = map_from_collect _ c.collect.ensures.ran (YieldsList-from_filter _ (λ (piece : List ℕ). not (eqb (length piece) 0)) (YieldsList-at c.filter.ensures.source cut) c.filter.ensures.closure (λ x r q k. search (rules, tests))) }

@@ -1,6 +1,0 @@
-pub mod Cutting
-pub mod Growing
-pub mod Numbers
-pub mod Rows
-pub mod Requests
-pub mod Meanings
