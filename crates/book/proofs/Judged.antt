@@ -1,7 +1,9 @@
--- What stands at a place of a book, and its rules one by one.
-use Rattle.std.proofs.Common.{◌≡◌, ℕ, suc, refl, ◌+◌, ◌-◌, ◌<◌, ◌≤◌, true, ◌&&◌, Bool, not, List, [], ◌∷◌, Some, None, length, slice_index, drop, sym, ap, ◌∙◌, subst, ⊎_elim, arith}
-use Rattle.std.proofs.lemmas.List.{at_drop_more, at_drop_all}
-use Rattle.std.specs.List.{zip, position_or_len}
+-- What stands at a place of a book, whether its rules are true, and the lowest choice of a row that its setting lacks.
+use Rattle.std.proofs.Common.{◌≡◌, ℕ, suc, refl, ◌+◌, ◌-◌, ◌<◌, ◌≤◌, true, false, Bool, not, List, [], ◌∷◌, Some, None, Option, length, slice_index, sym, ap, ◌∙◌, subst, ⊎_elim, arith}
+use Rattle.std.specs.Bool.{MatchBool}
+use Rattle.std.specs.List.{zip, position, position_or_len, AllWithin, HoldsAt}
+use Rattle.std.proofs.lemmas.List.Sums.{list_all-from_AllPass}
+use Rattle.std.proofs.lemmas.List.Folds.{list_all_at}
 use Rattle.std.proofs.lemmas.Bool.{and_parts, ltb-true, cases_Bool, cases_lt, cond-true, cond-false, lt-ltb, le-ltb}
 use Rattle.plfd.specs.declared.settings.Setting.{Setting}
 use Rattle.plfd.specs.declared.nodes.Atom.{Atom}
@@ -14,7 +16,7 @@ use Rattle.plfd.specs.Settings.{domain}
 use Rattle.promises.specs.Judging.{chosen, all_true, lowest_outside}
 use Rattle.book.specs.declared.book.Book.{Book}
 use Rattle.book.specs.Places.{stack, placed, formula_at}
-use Rattle.book.specs.Searching.{first_outside}
+use Rattle.book.specs.Searching.{FindsLowest}
 use Rattle.book.specs.View.{rules_of}
 use Rattle.book.proofs.Stack.{stack_more, some_places}
 use Rattle.book.proofs.Ends.{rule_at, rules_count}
@@ -52,17 +54,18 @@ module _ (b : Book) (k : ℕ) (h : k < length b.nodes.placed) where
       let back : k ≡ k - 1 + 1 = omega arith in
       (two, some, at (Join c) e ∙ ap (λ q. join c (top (below (stack ps k))) (top (stack ps q))) back)
 
-module _ (b : Book) (σ : Assignment) (k : ℕ) where
-  pub rule_more : k < length b.ends → all_true σ (drop k (rules_of b.nodes.placed)) ≡ (truth σ (formula_at b.nodes.placed (slice_index b.ends k - 1)) && all_true σ (drop (k + 1) (rules_of b.nodes.placed)))
-  rule_more h =
-      at_drop_more (all_true σ) (rules_of b.nodes.placed) k (constant true) (omega (arith, rules_count b))
-      ∙ ap (λ f. truth σ f && all_true σ (drop (k + 1) (rules_of b.nodes.placed))) (rule_at b (constant true) k h)
-
-  pub rules_done : length b.ends ≤ k → all_true σ (drop k (rules_of b.nodes.placed)) ≡ true
-  rules_done h = at_drop_all (all_true σ) (rules_of b.nodes.placed) k (omega (arith, rules_count b))
+-- whether all rules are true, from the truth of the formulas that end before the rules' ends
+pub decided : (b : Book) (σ : Assignment) (r : Bool) →
+    MatchBool r (AllWithin (λ n. truth σ (formula_at b.nodes.placed (n - 1)) ≡ true) b.ends 0 (length b.ends)) ((k : ℕ) × (k < length b.ends) × HoldsAt (λ n. truth σ (formula_at b.nodes.placed (n - 1)) ≡ false) b.ends k) →
+    r ≡ all_true σ (rules_of b.nodes.placed)
+decided b σ true all =
+    sym (list_all-from_AllPass (truth σ) (rules_of b.nodes.placed)
+    (λ k d l. let stands : k < length b.ends = omega (arith, rules_count b, l) in ap (truth σ) (rule_at b d k stands) ∙ all k 0 (omega arith) stands))
+decided b σ false one =
+    sym (list_all_at (truth σ) (rules_of b.nodes.placed) one.0 (constant true) (omega (arith, rules_count b, one.1)) (ap (truth σ) (rule_at b (constant true) one.0 one.1) ∙ one.2 0))
 
 -- a setting beside a choice that it does not have
-abbrev lacks : Setting × ℕ → Bool
+abbrev pub lacks : Setting × ℕ → Bool
 lacks p = not (domain p.0 p.1)
 
 zip_count : (S : List Setting) (row : List ℕ) → length S ≤ length row → length (zip S row) ≡ length S
@@ -91,19 +94,17 @@ module _ (S : List Setting) (row : List ℕ) (long : length S ≤ length row) wh
   lowest_is : lowest_outside S (chosen row) 0 ≡ position_or_len lacks (zip S row)
   lowest_is = lowest_from (chosen row) S row 0 (λ k. let e : k ≡ 0 + k = omega arith in ap (chosen row) e) long ∙ omega arith
 
-  pub none_outside : first_outside S row ≡ None → length S ≤ lowest_outside S (chosen row) 0
-  none_outside is =
+  pub finds_lowest : (r : Option ℕ) → r ≡ position lacks pairs → FindsLowest S (chosen row) r
+  finds_lowest None is =
       ⊎_elim
-      (λ low. let some = sym is ∙ cond-true _ _ _ (lt-ltb found (length pairs) low) in let z : ◌≡◌ {A = ℕ} 0 1 = cc in absurd (omega arith))
+      (λ low. let some = is ∙ cond-true _ _ _ (lt-ltb found (length pairs) low) in let z : ◌≡◌ {A = ℕ} 0 1 = cc in absurd (omega arith))
       (λ high. omega (arith, high, lowest_is, zip_count S row long))
       (cases_lt found (length pairs))
-
-  pub first_is_lowest : (x : ℕ) → first_outside S row ≡ Some x → (lowest_outside S (chosen row) 0 ≡ x) × (x < length S)
-  first_is_lowest x is =
+  finds_lowest (Some x) is =
       ⊎_elim
       (λ low.
-      let same : Some x ≡ Some found = sym is ∙ cond-true _ _ _ (lt-ltb found (length pairs) low) in
+      let same : Some x ≡ Some found = is ∙ cond-true _ _ _ (lt-ltb found (length pairs) low) in
       let e : x ≡ found = cc in
       (lowest_is ∙ sym e, omega (arith, e, low, zip_count S row long)))
-      (λ high. let none = sym is ∙ cond-false _ _ _ (le-ltb found (length pairs) high) in let z : ◌≡◌ {A = ℕ} 0 1 = cc in absurd (omega arith))
+      (λ high. let none = is ∙ cond-false _ _ _ (le-ltb found (length pairs) high) in let z : ◌≡◌ {A = ℕ} 0 1 = cc in absurd (omega arith))
       (cases_lt found (length pairs))

@@ -27,9 +27,6 @@ pub record Partial (S : List Setting) (ps₀ : List Placed) (code : List ℕ) (p
   pub goes : read S (length ps₀) code ≡ reading S (length ps) s at 0 (drop at code)
 
 module _ {S : List Setting} {ps₀ : List Placed} {code : List ℕ} {ps : List Placed} {formulas at : ℕ} (p : Partial S ps₀ code ps formulas at) where
-  pub few : formulas ≤ length (made ps)
-  few = omega (arith, ap length p.stands, length-append p.s (made ps₀), p.many)
-
   -- the checks of the next node decide how the reading goes on
   step : (n : Node) → commanded S at (drop at code) ≡ given n → read S (length ps₀) code ≡ unless (stack_checks formulas (length ps) at n) (reading S (length ps + 1) (raise p.s n) (at + width n) 0 (drop (at + width n) code))
   step n is =

@@ -6,13 +6,16 @@ use crate::nodes::Nodes;
 use crate::table::Table;
 use plfd::settings::Setting;
 
-/// How much a book holds at most.
+/// How many settings a book has at most.
 pub const MAX_SETTINGS: usize = 128;
 
+/// How many nodes all its rules have at most.
 pub const MAX_NODES: usize = 1024;
 
+/// How many rules stand in it at most.
 pub const MAX_RULES: usize = 256;
 
+/// How many suppositions are open in it at most.
 pub const MAX_SUPPOSITIONS: usize = 16;
 
 /// Every rule is one complete formula over declared settings, in postfix order, one rule behind the other.

@@ -5,7 +5,7 @@ ghost use Rattle.promises.specs.Page.{blank};
 ghost use Rattle.promises.specs.Refusals.{told};
 ghost use Rattle.book.specs.View.{page_of};
 
-use crate::book::{Book, MAX_SETTINGS};
+use crate::book::Book;
 use crate::nodes::Nodes;
 use crate::table::Table;
 use plfd::settings::Setting;
@@ -29,10 +29,10 @@ impl Book {
         ensures gives { DeclareGives (page_of self.old) size (told result) (page_of self.new) }
     {
         let number = self.settings.len();
-        if self.suppositions.len() > 0 {
+        if !self.suppositions.is_empty() {
             return Err(Refusal::SuppositionOpen);
         }
-        if number >= MAX_SETTINGS {
+        if self.settings.is_full() {
             return Err(Refusal::SettingsFull);
         }
         if size == 0 {
@@ -40,6 +40,14 @@ impl Book {
         }
         self.settings.push(Setting { size });
         Ok(number as u8)
+    }
+}
+
+impl Default for Book {
+    ghost is_default = { λ book. page_of book ≡ blank };
+
+    fn default() -> Book {
+        Book::new()
     }
 }
 

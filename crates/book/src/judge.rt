@@ -4,7 +4,7 @@ ghost use Rattle.plfd.specs.Formula.{truth};
 ghost use Rattle.promises.specs.Judging.{chosen, all_true, JudgeGives};
 ghost use Rattle.promises.specs.Refusals.{told};
 ghost use Rattle.book.specs.Places.{formula_at};
-ghost use Rattle.book.specs.Searching.{first_outside};
+ghost use Rattle.book.specs.Searching.{FindsLowest};
 ghost use Rattle.book.specs.View.{rules_of, page_of};
 
 use crate::book::Book;
@@ -22,7 +22,7 @@ struct Judgement<'a> {
 impl Judgement<'_> {
     /// The lowest setting whose choice in the row is none of its choices.
     fn outside(&self) -> Option<usize>
-        ensures value { result ≡ first_outside self.now.book.now.settings self.now.row.now }
+        ensures finds { FindsLowest self.now.book.now.settings (chosen self.now.row.now) result }
     {
         let settings = self.book.settings.as_slice();
         settings
@@ -52,12 +52,8 @@ impl Judgement<'_> {
     fn all_true(&self) -> bool
         ensures value { result ≡ all_true (chosen self.now.row.now) (rules_of self.now.book.now.nodes.placed) }
     {
-        for end in self.book.ends.as_slice() {
-            if !self.truth_at(usize::from(*end) - 1) {
-                return false;
-            }
-        }
-        true
+        let ends = self.book.ends.as_slice();
+        ends.iter().all(|end| self.truth_at(usize::from(*end) - 1))
     }
 }
 

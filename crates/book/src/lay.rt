@@ -10,7 +10,7 @@ ghost use Rattle.book.specs.Growing.{Added, Read, Tried};
 ghost use Rattle.book.specs.Places.{made, Fitting};
 ghost use Rattle.book.specs.View.{page_of};
 
-use crate::book::{Book, MAX_NODES, MAX_RULES};
+use crate::book::Book;
 use crate::nodes::Nodes;
 use plfd::faults::{CodeFault, CodeRefusal};
 use plfd::nodes::Node;
@@ -41,7 +41,7 @@ impl Nodes {
         let below = formulas
             .checked_sub(node.arity())
             .ok_or(CodeFault::TooFewFormulas.at(offset))?;
-        if self.placed.len() >= MAX_NODES {
+        if self.placed.is_full() {
             return Err(CodeFault::NodesFull.at(offset));
         }
         self.push(node);
@@ -55,6 +55,7 @@ impl Nodes {
     {
         let mut reader = Reader::new(code);
         let mut formulas = 0usize;
+        // An iterator over commands would give an offset, a node and a refusal at once, and be no plainer.
         while reader.left() > 0 {
             let offset = reader.place();
             let node = reader.command(settings)?;
@@ -84,7 +85,7 @@ impl Book {
         ensures means { LayMeans (page_of self.old) code.now (told result) (page_of self.new) }
     {
         let rule = self.ends.len();
-        if rule >= MAX_RULES {
+        if self.ends.is_full() {
             return Err(Refusal::RulesFull);
         }
         self.nodes.lay(self.settings.as_slice(), code)?;

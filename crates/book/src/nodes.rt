@@ -9,13 +9,14 @@ use crate::table::Table;
 use plfd::nodes::Node;
 
 /// A node at its place in postfix order; `span` counts the nodes of the formula that ends here.
-#[derive(Clone, Copy)]
+#[derive(Clone, Copy, Debug, PartialEq, Eq)]
 pub struct Placed {
     pub(crate) node: Node,
     pub(crate) span: u16,
 }
 
 /// Nodes of formulas, one formula behind the other: each node finds the sides that it takes before it.
+// Places and no boxes: memory is fixed, and postfix order is that of the codes.
 #[derive(Drop)]
 pub struct Nodes {
     pub(crate) placed: Table<Placed, MAX_NODES>,

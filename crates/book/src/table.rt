@@ -1,9 +1,11 @@
 //! A table: a list in fixed memory.
-ghost use Rattle.std.specs.Prelude.{◌≡◌, ◌<◌, ◌≤◌, List, [], ◌∷◌, ◌++◌, length, take};
+ghost use Rattle.std.specs.Prelude.{◌≡◌, ◌==◌, ◌<◌, ◌≤◌, List, [], ◌∷◌, ◌++◌, length, take};
 
 use std::marker::Model;
 
 /// At most `N` items. An item is written behind the others, and only then the count grows.
+// An array and a count, since a book has fixed memory and no heap; and no `ArrayVec`, which fills its array with defaults
+// and shows a clause a record, so that neither the code nor a contract would be plainer.
 #[derive(Drop)]
 pub struct Table<T, const N: usize> {
     items: [T; N],
@@ -36,6 +38,21 @@ impl<T: Copy, const N: usize> Table<T, N> {
         ensures few { length self.now ≤ N }
     {
         self.count
+    }
+
+    /// Whether it has none.
+    pub(crate) fn is_empty(&self) -> bool
+        ensures value { result ≡ (length self.now == 0) }
+    {
+        self.count == 0
+    }
+
+    /// Whether there is no room for another.
+    pub(crate) fn is_full(&self) -> bool
+        ensures value { result ≡ (length self.now == N) }
+        ensures few { length self.now ≤ N }
+    {
+        self.count == N
     }
 
     /// Its items.

@@ -14,7 +14,7 @@ fn has_just<K: SetKind>(set: K, members: &[u16]) -> bool {
         }
         left = left.difference(K::range(*choice, *choice));
     }
-    left.least() == None
+    left.least().is_none()
 }
 
 #[test]

@@ -1,10 +1,10 @@
 -- What an array holds that `array::from_fn` made, and which choices a wide set has by its words.
-use Rattle.std.proofs.Common.{◌≡◌, ℕ, zero, suc, ◌+◌, ◌*◌, ◌/◌, ◌%◌, ◌<◌, Bool, Some, None, Option, ◌&&◌, ltb, List, get_or, subst, sym, refl, ap, ◌∙◌, arith}
+use Rattle.std.proofs.Common.{◌≡◌, ℕ, zero, suc, ◌+◌, ◌*◌, ◌/◌, ◌%◌, ◌<◌, Bool, ◌&&◌, ltb, List, get_or, subst, sym, refl, ap, ◌∙◌, arith}
 use Rattle.std.proofs.lemmas.Bool.Decides.{nat_tests}
 use Rattle.std.specs.Fn.{Called, Mut}
 use Rattle.std.specs.Array.{IsFromFnResultFrom, IsFromFnResult}
 use Rattle.kinds.specs.declared.wide.Wide.{Wide}
-use Rattle.kinds.specs.Sets.{most, Empty, LeastOf, Least}
+use Rattle.kinds.specs.Sets.{most}
 use Rattle.kinds.specs.Masks.{marks}
 use Rattle.kinds.specs.Wides.{word, spans}
 
@@ -29,18 +29,3 @@ from_words w p each v =
     let back : v / 64 * 64 + v % 64 ≡ v = omega arith in
     let e = λ (l : v / 64 < 1024). each (v / 64) l (v % 64) ∙ ap (λ k. p k && ltb (v % 64) 64) back in
     grind (arith, nat_tests)
-
--- the least choice of the first word that has one, and none where no word has one
-abbrev pub IsOfFirstWord : Wide → Option ℕ → Type 0
-IsOfFirstWord w None = (k : ℕ) → k < 1024 → Empty (marks (word w k))
-IsOfFirstWord w (Some m) = (m / 64 < 1024) × LeastOf (marks (word w (m / 64))) (m % 64) × ((k : ℕ) → k < m / 64 → Empty (marks (word w k)))
-
-pub least_of_words : (w : Wide) (r : Option ℕ) → IsOfFirstWord w r → Least (spans w) r
-least_of_words w None none = λ v. let e = λ (l : v / 64 < 1024). none (v / 64) l (v % 64) in grind (arith, nat_tests)
-least_of_words w (Some m) (within, least, before) = (
-  grind (arith, nat_tests),
-  λ v l.
-      let e = λ (h : v / 64 < m / 64). before (v / 64) h (v % 64) in
-      let f = λ (h : v % 64 < m % 64). least.1 (v % 64) h in
-      grind (arith, nat_tests),
-)

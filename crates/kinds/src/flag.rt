@@ -5,7 +5,7 @@ ghost use Rattle.std.proofs.Common.{rules};
 use crate::set_kind::SetKind;
 
 /// The four sets of two choices.
-#[derive(Clone, Copy, Debug, PartialEq, Eq)]
+#[derive(Clone, Copy, Debug, PartialEq, Eq, Hash)]
 pub enum Flag {
     Neither,
     Zero,
@@ -39,8 +39,7 @@ impl SetKind for Flag {
 
     fn meet(self, other: Flag) -> Flag {
         match (self, other) {
-            (Flag::Both, set) => set,
-            (set, Flag::Both) => set,
+            (Flag::Both, set) | (set, Flag::Both) => set,
             (Flag::Zero, Flag::Zero) => Flag::Zero,
             (Flag::One, Flag::One) => Flag::One,
             _ => Flag::Neither,

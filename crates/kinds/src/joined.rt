@@ -35,7 +35,7 @@ impl<A: SetKind, B: SetKind> SetKind for Joined<A, B> {
         }
     }
 
-    // `meet` and `difference` go by halves of two types: one function for both would take two closures, and be no plainer
+    // `meet` and `difference` go by halves of two types: one function for both would take two closures, and be no plainer.
     fn meet(self, other: Joined<A, B>) -> Joined<A, B> {
         Joined {
             first: self.first.meet(other.first),
@@ -51,12 +51,12 @@ impl<A: SetKind, B: SetKind> SetKind for Joined<A, B> {
     }
 
     fn least(self) -> Option<u16> {
-        // no `or_else`: over two kinds the proof does not see into its closure
+        // No `or_else`: over two kinds the proof does not see into its closure.
         if let Some(choice) = self.first.least() {
             return Some(choice);
         }
         let behind = self.second.least()?;
-        // a choice past the cap is no member, and if the least of the second half is one, so are all of them
+        // A choice past the cap is no member, and if the least of the second half is one, so are all of them.
         u16::try_from(A::capacity() + u32::from(behind)).ok()
     }
 }

@@ -11,7 +11,7 @@ use crate::set_kind::SetKind;
 pub(crate) const MASK_CHOICES: u16 = 64;
 
 /// A set whose members are the places of the bits that are 1. The lowest bit has the place 0.
-#[derive(Clone, Copy, Debug, PartialEq, Eq)]
+#[derive(Clone, Copy, Debug, PartialEq, Eq, Hash)]
 pub struct Mask {
     bits: u64,
 }
@@ -21,7 +21,7 @@ impl Mask {
     fn below(end: u32) -> Mask
         ensures members { (v : ℕ) → marks result v ≡ (nat_lt v end && nat_lt v 64) }
     {
-        // the other choices' bits, and then all but these
+        // The other choices' bits, and then all but these.
         Mask {
             bits: !u64::MAX.unbounded_shl(end),
         }

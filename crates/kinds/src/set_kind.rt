@@ -19,6 +19,7 @@ pub trait SetKind: Copy {
         ensures value { result ≡ limit };
 
     /// The choices from `lo` to `hi`, both included, so far as the kind has them: none where `lo` is above `hi`.
+    // Two numbers, as an atom has them, which is `Copy`; a `RangeInclusive` is not.
     fn range(lo: u16, hi: u16) -> Self
         ensures members { (v : ℕ) → member result v ≡ (between lo hi v && nat_lt v limit) };
 
@@ -57,7 +58,7 @@ pub(crate) fn range_behind<K: SetKind>(start: u32, lo: u16, hi: u16) -> K
 {
     match u16::try_from(start) {
         Ok(start) if start <= hi => K::range(lo.saturating_sub(start), hi - start),
-        // a kind that starts behind `hi` has no part of the range
+        // A kind that starts behind `hi` has no part of the range.
         _ => empty(),
     }
 }

@@ -13,7 +13,7 @@ use std::array;
 const WORDS: usize = 1024;
 
 /// A set held in 8 KiB: the first mask has the choices 0 to 63, the next those from 64 on, and so forth.
-#[derive(Clone, Copy, Debug, PartialEq, Eq)]
+#[derive(Clone, Copy, Debug, PartialEq, Eq, Hash)]
 pub struct Wide {
     words: [Mask; WORDS],
 }
@@ -54,7 +54,7 @@ impl SetKind for Wide {
     }
 
     fn range(lo: u16, hi: u16) -> Wide {
-        // the part that falls to the word `i`; the clauses that are inferred would say less
+        // The part that falls to the word `i`; the clauses that are inferred would say less.
         let part = |i: usize|
             requires { i < WORDS }
             ensures members { (u : ℕ) → marks result u ≡ (between lo hi (i * 64 + u) && nat_lt u 64) }

@@ -33,6 +33,11 @@ abbrev pub FailsAs : Meaning → LineError → Type 0
 FailsAs m (NotACall e) = m ≡ not_a_call e
 FailsAs m (Memory e) = Unit {0}
 
+-- the error says that x was expected, and o is none; where memory ran out, nothing is said
+abbrev pub FailsWith : {A : Type 0} → Expected → Option A → LineError → Type 0
+FailsWith x o (NotACall e) = (e ≡ x) × (o ≡ None)
+FailsWith x o (Memory e) = Unit {0}
+
 -- a line that names a call and has the meaning m is read as r
 abbrev pub CallReadAs : Meaning → Result Call LineError → Type 0
 CallReadAs m (Ok c) = m ≡ a_call (request_of c)

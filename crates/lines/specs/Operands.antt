@@ -1,13 +1,16 @@
 -- What a word is read as: a byte, or a number; and so a row of words.
-use Rattle.std.specs.Prelude.{ℕ, ◌+◌, ◌*◌, if◌then◌else◌, ◌&&◌, List, [], ◌∷◌, Some, None, Option, length, nat_lt}
+use Rattle.std.specs.Prelude.{ℕ, ◌+◌, ◌-◌, ◌*◌, if◌then◌else◌, ◌&&◌, List, [], ◌∷◌, Some, None, Option, nat_lt}
 use Rattle.std.specs.Option.{option_map}
-use Rattle.std.specs.Char.{digit_value}
+use Rattle.std.specs.Int.{is_in_range}
 use Rattle.std.specs.Str.{all_ascii_digits}
-use Rattle.std.specs.Str.Parse.{digits_value}
 
 -- the value of a hexadecimal digit: 0 to 9, a to f, A to F
 abbrev pub digit_of : ℕ → Option ℕ
-digit_of c = if nat_lt (digit_value c) 16 then Some (digit_value c) else None
+digit_of c =
+    if is_in_range 48 57 c then Some (c - 48)
+    else if is_in_range 97 102 c then Some (c - 87)
+    else if is_in_range 65 70 c then Some (c - 55)
+    else None
 
 -- the byte of two digits, if both are there
 abbrev pub byte_from : Option ℕ → Option ℕ → Option ℕ
@@ -22,10 +25,15 @@ byte_of (h ∷ []) = None
 byte_of (h ∷ l ∷ []) = byte_from (digit_of h) (digit_of l)
 byte_of (h ∷ l ∷ c ∷ cs) = None
 
+-- the number that decimal digits give behind those read so far
+abbrev pub read_on : ℕ → List ℕ → ℕ
+read_on n [] = n
+read_on n (c ∷ cs) = read_on (10 * n + (c - 48)) cs
+
 -- a number is a word of one or more decimal digits, and fits 16 bits
 abbrev pub number_of : List ℕ → Option ℕ
-number_of word =
-    if nat_lt 0 (length word) && all_ascii_digits word && nat_lt (digits_value 10 word) 65536 then Some (digits_value 10 word) else None
+number_of [] = None
+number_of (c ∷ cs) = if all_ascii_digits (c ∷ cs) && nat_lt (read_on 0 (c ∷ cs)) 65536 then Some (read_on 0 (c ∷ cs)) else None
 
 -- an item in front of the others, if both are there
 abbrev pub before : {X : Type 0} → Option X → Option (List X) → Option (List X)

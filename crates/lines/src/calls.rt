@@ -8,7 +8,7 @@ use std::error::Error;
 use std::fmt;
 
 /// A call of a rule book.
-#[derive(Debug, Drop)]
+#[derive(Debug, PartialEq, Eq, Drop)]
 pub enum Call {
     Declare { size: u16 },
     Lay { code: Vec<u8> },
@@ -29,6 +29,7 @@ pub enum Expected {
 
 impl Expected {
     /// The same in words.
+    // `Display` writes them too; this gives them to those who write no text.
     pub fn text(self) -> &'static str
         ensures text { result.now ≡ expected_text self }
     {
@@ -63,6 +64,7 @@ impl fmt::Display for LineError {
     fn fmt<W: fmt::Write>(&self, f: &mut fmt::Formatter<W>) -> fmt::Result {
         match self {
             LineError::NotACall(expected) => write!(f, "{expected}"),
+            // `AllocError` prints this too, but states no text.
             LineError::Memory(_) => f.write_str("memory allocation failed"),
         }
     }
@@ -74,7 +76,7 @@ impl From<Expected> for LineError {
     ghost from_gives = { λ expected e. e ≡ NotACall expected };
 
     fn from(expected: Expected) -> LineError {
-        LineError::NotACall(expected)
+        Self::NotACall(expected)
     }
 }
 
@@ -82,6 +84,6 @@ impl From<AllocError> for LineError {
     ghost from_gives = { λ error e. e ≡ Memory error };
 
     fn from(error: AllocError) -> LineError {
-        LineError::Memory(error)
+        Self::Memory(error)
     }
 }

@@ -1,13 +1,14 @@
 //! The operands of a call: bytes in hexadecimal, and decimal numbers.
-ghost use Rattle.std.specs.Prelude.{◌≡◌, ℕ, List, IfOk, vec_items, Option};
-ghost use Rattle.std.specs.Option.{option_map};
+ghost use Rattle.std.specs.Prelude.{◌≡◌, ℕ, List, IfOk, IfErr, Some, vec_items, Option};
+ghost use Rattle.lines.specs.Calls.{FailsWith};
 ghost use Rattle.lines.specs.Operands.{byte_of, number_of, each_of};
 ghost use Rattle.lines.specs.Words.{texts};
 
-use std::alloc::{AllocError, Global};
+use crate::calls::{Expected, LineError};
+use std::alloc::Global;
 
 /// What a single word can be read as.
-pub trait Operand {
+pub(crate) trait Operand {
     ghost reads: { List ℕ → Option Self };
 
     fn read(word: &str) -> Option<Self>
@@ -40,20 +41,17 @@ impl Operand for u16 {
     }
 }
 
-/// All words read as operands, if each can be.
-// A loop, since no clause of `collect` says that it gives none where a word gives none.
-pub fn read_each<T: Operand + Drop>(
+/// All words read as operands, or what was expected where one cannot be.
+pub(crate) fn read_each<T: Operand + Drop>(
     alloc: Global,
     words: &[&str],
-) -> Result<Option<Vec<T>>, AllocError>
-    ensures values { IfOk result (λ o. option_map vec_items o ≡ each_of T.Operand.reads (texts words.now)) }
+    expected: Expected,
+) -> Result<Vec<T>, LineError>
+    ensures values { IfOk result (λ v. each_of T.Operand.reads (texts words.now) ≡ Some (vec_items v)) }
+    ensures fails { IfErr result (λ e. FailsWith expected (each_of T.Operand.reads (texts words.now)) e) }
 {
-    let mut operands = Vec::new(alloc);
-    for word in words {
-        let Some(operand) = T::read(word) else {
-            return Ok(None);
-        };
-        operands.push(operand)?;
-    }
-    Ok(Some(operands))
+    words
+        .iter()
+        .map(|word| T::read(word).ok_or(LineError::NotACall(expected)))
+        .try_collect(alloc)
 }

@@ -40,11 +40,11 @@ fn read_call(alloc: Global, name: &str, operands: &[&str]) -> Result<Call, LineE
     let call = match name {
         "declare" => read_declare(operands).ok_or(Expected::Declare)?,
         "lay" => Call::Lay {
-            code: read_each(alloc, operands)?.ok_or(Expected::Lay)?,
+            code: read_each(alloc, operands, Expected::Lay)?,
         },
         "write" => read_write(operands).ok_or(Expected::Write)?,
         "judge" => Call::Judge {
-            row: read_each(alloc, operands)?.ok_or(Expected::Judge)?,
+            row: read_each(alloc, operands, Expected::Judge)?,
         },
         _ => return Err(LineError::NotACall(Expected::Call)),
     };

@@ -77,6 +77,7 @@ impl Reader<'_> {
     }
 
     /// The node of the command ahead, over declared settings. The reader moves behind the command, unless it is refused.
+    // The settings are handed in: a reader that held them could read nothing but the codes of rules.
     pub fn command(&mut self, settings: &[Setting]) -> Result<Node, CodeRefusal>
         ensures answer { told_code result ≡ commanded settings.now self.old.place (ahead self.old) }
         ensures bytes { self.new.bytes.now ≡ self.old.bytes.now }

@@ -6,7 +6,8 @@ use crate::nodes::{Atom, Connective, Node};
 use std::marker::Model;
 
 /// The bytes of one command. A contract sees them as a list: the first `count` of six, since a command has at most
-/// five operands. There is no heap here, so they lie in an array.
+/// five operands.
+// They lie in an array, since there is no heap here; an `ArrayVec` is filled from a slice with an error to handle.
 #[derive(Drop)]
 pub struct Encoded {
     bytes: [u8; 6],

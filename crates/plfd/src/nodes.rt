@@ -9,6 +9,7 @@ pub enum Atom {
     /// The setting has this choice.
     Is { setting: u8, choice: u16 },
     /// The setting has a choice from `lo` to `hi`.
+    // Two numbers, since a `RangeInclusive` is not `Copy`.
     Range { setting: u8, lo: u16, hi: u16 },
 }
 
@@ -84,7 +85,7 @@ impl Node {
         match self {
             Node::Atomic(Atom::Is { .. }) => 3,
             Node::Atomic(Atom::Range { .. }) => 5,
-            _ => 0,
+            Node::Constant(_) | Node::Not | Node::Join(_) => 0,
         }
     }
 }

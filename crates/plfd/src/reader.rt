@@ -1,7 +1,7 @@
 //! The reader: a cursor that keeps the bytes and the place reached.
 ghost use Rattle.std.specs.Prelude.{◌≡◌, ◌≤◌, length};
 
-#[derive(Drop)]
+#[derive(Debug, Drop)]
 pub struct Reader<'a> {
     pub(crate) bytes: &'a [u8],
     pub(crate) place: usize,

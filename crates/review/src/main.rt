@@ -35,6 +35,7 @@ fn play(rt: &HostRuntime, book: &mut Book, number: usize, line: &str) -> Result<
 }
 
 /// The text of the file, or a message that names it.
+// A match and no `map_err`, since the copy of the path may fail too.
 fn read_script(rt: &HostRuntime, path: &str) -> Result<String, Failure> {
     match fs::read_to_string(rt, path) {
         Ok(text) => Ok(text),

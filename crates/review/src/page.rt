@@ -7,7 +7,7 @@ pub struct Step {
     pub meaning: Option<&'static str>,
 }
 
-pub const PAGE: [Step; 21] = [
+pub const PAGE: &[Step] = &[
     Step {
         note: "The route Grossglocknerpfad has seventeen letters, and shares its page with the climb chart.\nWhen is its name cut off? First the settings of the page, each with its choices.",
         line: None,

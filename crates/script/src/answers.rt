@@ -6,7 +6,7 @@ ghost use Rattle.script.specs.Saying.{code_said, answer_said};
 use std::fmt;
 
 /// What a call of a book gave that was not refused.
-#[derive(Debug, Drop)]
+#[derive(Debug, PartialEq, Eq, Drop)]
 pub enum Answer {
     /// The number of the setting that was declared.
     Setting(u8),

@@ -24,13 +24,11 @@ fn write_out(
     ensures gives { IfOk result (Writes (page_of book.now) rule room) }
 {
     let mut buffer = vec![in alloc; 0u8; usize::from(room)]?;
-    match book.write_out(rule, &mut buffer) {
-        Ok(length) => {
-            buffer.truncate(length);
-            Ok(Ok(Answer::Code(buffer)))
-        }
-        Err(refusal) => Ok(Err(refusal)),
-    }
+    let written = book.write_out(rule, &mut buffer);
+    Ok(written.map(|length| {
+        buffer.truncate(length);
+        Answer::Code(buffer)
+    }))
 }
 
 /// Makes the call on the book. A refusal is what the book gave, and is no failure of the call.

@@ -6,6 +6,7 @@ use crate::answers::Answer;
 use promises::refusals::Refusal;
 use std::alloc::{AllocError, Global};
 
+// No `Display`: a refusal's own is its words, a part of this line. A type for the line is no plainer.
 fn say_refusal(alloc: Global, refusal: Refusal) -> Result<String, AllocError>
     ensures bytes { IfOk result (λ s. string_bytes s ≡ refusal_said refusal) }
 {

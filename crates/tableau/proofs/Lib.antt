@@ -10,4 +10,3 @@ pub mod Models
 pub mod Closing
 pub mod Examined
 pub mod Likeness
-pub mod Worked

@@ -3,6 +3,7 @@ ghost use Rattle.std.specs.Prelude.{◌≡◌};
 ghost use Rattle.tableau.specs.Faults.{fault_number};
 
 /// A fault of a tape; each has a number of its own.
+// No words yet: no call tells these faults.
 #[derive(Clone, Copy, Debug, PartialEq, Eq, Hash)]
 pub enum TapeFault {
     UnknownCommand = 23,

@@ -1,22 +1,25 @@
--- Word by word, until one cannot be read.
-use Rattle.std.proofs.Common.{◌≡◌, ℕ, ◌+◌, ◌<◌, List, [], ◌∷◌, ◌++◌, length, get_or, drop, Some, None, Option, refl, ap, append_assoc, arith, Bor}
-use Rattle.std.specs.Option.{option_map}
+-- Each word is read, or the first one that cannot be makes the row none.
+use Rattle.std.proofs.Common.{◌≡◌, ℕ, zero, suc, ◌<◌, List, [], ◌∷◌, length, get_or, Some, None, Option, Bor, refl, ap, ◌∙◌, arith, rules}
 use Rattle.std.proofs.lemmas.Grind.{common_steps}
-use Rattle.std.proofs.lemmas.List.{at_drop_more}
 use Rattle.lines.specs.Operands.{before, each_of}
 use Rattle.lines.specs.Words.{texts}
 use Rattle.lines.proofs.operands.read_each.Goals as goal
 
--- what the words from i on are read as, by the first of them
-next_read : {X : Type 0} (value : List ℕ → Option X) (words : List (Bor (List ℕ))) (i : ℕ) (word : Bor (List ℕ)) → i < length words → each_of value (texts (drop i words)) ≡ before (value (get_or words i word).now) (each_of value (texts (drop (i + 1) words)))
-next_read value words i word within = at_drop_more (λ ws. each_of value (texts ws)) words i word within
+module _ {X : Type 0} (value : List ℕ → Option X) where
+  all_read : (words : List (Bor (List ℕ))) (row : List X) → length row ≡ length words → ((k : ℕ) (w : Bor (List ℕ)) (x : X) → k < length words → value (get_or words k w).now ≡ Some (get_or row k x)) → each_of value (texts words) ≡ Some row
+  all_read [] [] same each = refl
+  all_read [] (x ∷ row) same each = grind arith
+  all_read (w ∷ words) [] same each = grind arith
+  all_read (w ∷ words) (x ∷ row) same each =
+      ap (λ o. before o (each_of value (texts words))) (each 0 w x (omega arith)) ∙ ap (before (Some x)) (all_read words row (omega arith) (λ k w' x' l. each (suc k) w' x' (omega arith)))
 
-row_more : {X : Type 0} (row : List X) (x : X) (others : Option (List X)) → option_map (λ more. (row ++ x ∷ []) ++ more) others ≡ option_map (λ more. row ++ more) (before (Some x) others)
-row_more row x None = refl
-row_more row x (Some xs) = ap Some (append_assoc row (x ∷ []) xs)
+  none_read : (words : List (Bor (List ℕ))) (i : ℕ) (word : Bor (List ℕ)) → i < length words → value (get_or words i word).now ≡ None → each_of value (texts words) ≡ None
+  none_read [] i word within none = grind arith
+  none_read (w ∷ words) zero word within none = ap (λ o. before o (each_of value (texts words))) none
+  none_read (w ∷ words) (suc i) word within none = let rest = none_read words i word (omega arith) none in grind (common_steps, arith, rest)
 
-pub returns-in_default : goal.returns-in_default
-returns-in_default g c = grind (arith, common_steps, next_read)
+pub returns-clause-values : goal.returns-clause-values
+returns-clause-values g c = grind (rules, all_read)
 
-pub loop-word-preserved : goal.loop-word-preserved
-loop-word-preserved g c = grind (arith, common_steps, next_read, row_more)
+pub returns-clause-fails : goal.returns-clause-fails
+returns-clause-fails g c = grind (rules, none_read)
