@@ -22,14 +22,14 @@ use Rattle.book.proofs.Ends.{rules_total, rules_count}
 
 -- what laying a code tells of its reading
 module _ (S : List Setting) (ps ps' : List Placed) where
-  pub tried_no : (x : Answer Formula) (e : CodeRefusal) → Tried x S ps ps' (Err e) → (x ≡ refused (fault e.fault e.offset)) × (ps' ≡ ps)
+  pub tried_no : (x : Answer Formula) (e : CodeRefusal) → Tried x S ps ps' (ps' ≡ ps) (Err e) → (x ≡ refused (fault e.fault e.offset)) × (ps' ≡ ps)
   tried_no (given f) e t = let h = t.0 in let z : ◌≡◌ {A = ℕ} 0 1 = cc in absurd (omega arith)
   tried_no (refused w) e t =
       let h = t.0.1 in
       let same : t.0.0 ≡ e = cc in
       (ap refused (t.0.2 ∙ ap (λ d. fault d.fault d.offset) same), t.1)
 
-  pub tried_yes : (x : Answer Formula) → Tried x S ps ps' (Ok tt) → (f : Formula) × (x ≡ given f) × Grown S ps ps' f
+  pub tried_yes : (x : Answer Formula) → Tried x S ps ps' (ps' ≡ ps) (Ok tt) → (f : Formula) × (x ≡ given f) × Grown S ps ps' f
   tried_yes (given f) t = (f, refl, t.1)
   tried_yes (refused w) t = let h = t.0.1 in let z : ◌≡◌ {A = ℕ} 0 1 = cc in absurd (omega arith)
 

@@ -23,6 +23,7 @@ module _ (n : Nodes) (end : ℕ) (within : end ≤ length n.placed) (one : 1 ≤
 
 -- two sides, one behind the other
 pub record Sides (n : Nodes) (end left : ℕ) : Type 0 where
+  pub place : left + 1 + nodes (top (stack n.placed end)) ≡ end
   pub before : left + 1 < end
   pub formula : formula_at n.placed left ≡ top (below (stack n.placed end))
 
@@ -36,17 +37,17 @@ sides n end within two =
     let left : 0 < length (stack ps (end - nodes (top s))) = rw t.rest (omega (arith, below_length s)) in
     let more : 0 < end - nodes (top s) = some_places ps _ left in
     let place : end - 1 - (placed ps (end - 1)).span + 1 ≡ end - nodes (top s) = omega (arith, span) in
-    (omega (arith, span), record { before = omega (arith, place, some_nodes (top s), t.within); formula = ap (λ q. top (stack ps q)) place ∙ ap top t.rest })
+    (omega (arith, span), record { place = omega (arith, place, t.within); before = omega (arith, place, some_nodes (top s), t.within); formula = ap (λ q. top (stack ps q)) place ∙ ap top t.rest })
 
-pub left_span : (n : Nodes) (end left : ℕ) → end ≤ length n.placed → Sides n end left → (placed n.placed left).span ≡ nodes (top (below (stack n.placed end)))
-left_span n end left within s = let h = s.before in n.spans left (omega arith) ∙ ap nodes s.formula
+left_span : (n : Nodes) (end left : ℕ) → end ≤ length n.placed → left + 1 < end → formula_at n.placed left ≡ top (below (stack n.placed end)) → (placed n.placed left).span ≡ nodes (top (below (stack n.placed end)))
+left_span n end left within before formula = n.spans left (omega arith) ∙ ap nodes formula
 
 two_nodes : (s : List Formula) → 2 ≤ length s → nodes (top s) + nodes (top (below s)) ≤ total s
 two_nodes [] h = absurd (omega arith)
 two_nodes (f ∷ []) h = absurd (omega arith)
 two_nodes (f ∷ g ∷ s) h = omega arith
 
-pub two_within : (n : Nodes) (end : ℕ) → end ≤ length n.placed → 2 ≤ length (stack n.placed end) → nodes (top (stack n.placed end)) + nodes (top (below (stack n.placed end))) ≤ end
+two_within : (n : Nodes) (end : ℕ) → end ≤ length n.placed → 2 ≤ length (stack n.placed end) → nodes (top (stack n.placed end)) + nodes (top (below (stack n.placed end))) ≤ end
 two_within n end within two = omega (arith, two_nodes (stack n.placed end) two, stack_total n.placed n.supplied end within)
 
 -- the spans of the sides that end with the last node
@@ -62,4 +63,4 @@ module _ (n : Nodes) where
   pub two_spans : (left : ℕ) → 2 ≤ length (made n.placed) → left + 1 < length n.placed → formula_at n.placed left ≡ top (below (stack n.placed (length n.placed))) → (placed n.placed left).span + (placed n.placed last).span ≤ length n.placed
   two_spans left two before formula =
       let two' : 2 ≤ length (stack n.placed (length n.placed)) = rw (made_all n.placed) two in
-      omega (arith, left_span n (length n.placed) left (omega arith) (record { before = before; formula = formula }), top_span n (length n.placed) (omega arith) (omega (arith, two')), two_within n (length n.placed) (omega arith) two')
+      omega (arith, left_span n (length n.placed) left (omega arith) before formula, top_span n (length n.placed) (omega arith) (omega (arith, two')), two_within n (length n.placed) (omega arith) two')

@@ -29,12 +29,7 @@ pub record Grown (S : List Setting) (ps ps' : List Placed) (f : Formula) : Type 
 abbrev pub Refuses : Reason → Result (Unit {0}) CodeRefusal → Type 0
 Refuses w r = (e : CodeRefusal) × (r ≡ Err e) × (w ≡ fault e.fault e.offset)
 
--- a formula was read, and its nodes stand behind the others; or there was a fault, and some of its nodes stand there
-abbrev pub Read : Answer Formula → List Setting → List Placed → List Placed → Result (Unit {0}) CodeRefusal → Type 0
-Read (given f) S ps ps' r = (r ≡ Ok tt) × Grown S ps ps' f
-Read (refused w) S ps ps' r = Refuses w r × Behind ps ps'
-
--- a formula was read, and its nodes stand behind the others; or there was a fault, and all is as it was
-abbrev pub Tried : Answer Formula → List Setting → List Placed → List Placed → Result (Unit {0}) CodeRefusal → Type 0
-Tried (given f) S ps ps' r = (r ≡ Ok tt) × Grown S ps ps' f
-Tried (refused w) S ps ps' r = Refuses w r × (ps' ≡ ps)
+-- a formula was read, and its nodes stand behind the others; or there was a fault, and this is left
+abbrev pub Tried : Answer Formula → List Setting → List Placed → List Placed → (left : Type 0) → Result (Unit {0}) CodeRefusal → Type 0
+Tried (given f) S ps ps' left r = (r ≡ Ok tt) × Grown S ps ps' f
+Tried (refused w) S ps ps' left r = Refuses w r × left

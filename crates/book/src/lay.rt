@@ -6,7 +6,7 @@ ghost use Rattle.plfd.specs.Faults.{told_code};
 ghost use Rattle.plfd.specs.Reading.{stack_checks, end_checks, read};
 ghost use Rattle.promises.specs.Laying.{LayGives, LayMeans};
 ghost use Rattle.promises.specs.Refusals.{told};
-ghost use Rattle.book.specs.Growing.{Added, Read, Tried};
+ghost use Rattle.book.specs.Growing.{Added, Behind, Tried};
 ghost use Rattle.book.specs.Places.{made, Fitting};
 ghost use Rattle.book.specs.View.{page_of};
 
@@ -48,10 +48,10 @@ impl Nodes {
         Ok(below + 1)
     }
 
-    /// Adds the nodes of a code, as far as it can be read.
+    /// Adds the nodes of a code, as far as it can be read. Which of them stand after a refusal is left open: `lay` drops them.
     fn read(&mut self, settings: &[Setting], code: &[u8]) -> Result<(), CodeRefusal>
         requires fitting { Fitting settings.now self.old.placed }
-        ensures reads { Read (read settings.now (length self.old.placed) code.now) settings.now self.old.placed self.new.placed result }
+        ensures reads { Tried (read settings.now (length self.old.placed) code.now) settings.now self.old.placed self.new.placed (Behind self.old.placed self.new.placed) result }
     {
         let mut reader = Reader::new(code);
         let mut formulas = 0usize;
@@ -67,7 +67,7 @@ impl Nodes {
     /// Adds the nodes of a code, or none where it is refused.
     fn lay(&mut self, settings: &[Setting], code: &[u8]) -> Result<(), CodeRefusal>
         requires fitting { Fitting settings.now self.old.placed }
-        ensures result { Tried (read settings.now (length self.old.placed) code.now) settings.now self.old.placed self.new.placed result }
+        ensures result { Tried (read settings.now (length self.old.placed) code.now) settings.now self.old.placed self.new.placed (self.new.placed ≡ self.old.placed) result }
     {
         let standing = self.placed.len();
         let read = self.read(settings, code);

@@ -1,5 +1,6 @@
 //! The nodes of formulas, in postfix order.
 ghost use Rattle.std.specs.Prelude.{◌≡◌, ◌+◌, ◌<◌, ◌≤◌, [], ◌∷◌, ◌++◌, length, take};
+ghost use Rattle.plfd.specs.Formula.{nodes};
 ghost use Rattle.plfd.specs.Code.{arity, top, below};
 ghost use Rattle.book.specs.declared.book.TheConstants.{MAX_NODES};
 ghost use Rattle.book.specs.Places.{stack, formula_at, made, made_nodes, record_of, Spans, Supplied};
@@ -43,6 +44,7 @@ impl Nodes {
     pub(crate) fn left_of(&self, end: usize) -> usize
         requires within { end ≤ length self.now.placed }
         requires sides { 2 ≤ length (stack self.now.placed end) }
+        ensures place { result + 1 + nodes (top (stack self.now.placed end)) ≡ end }
         ensures before { result + 1 < end }
         ensures formula { formula_at self.now.placed result ≡ top (below (stack self.now.placed end)) }
     {

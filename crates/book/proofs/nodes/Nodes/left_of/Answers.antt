@@ -9,4 +9,4 @@ overflow_sub-result c = let s = sides c.args.self.now c.args.end c.requires.with
 pub returns : goal.returns
 returns c =
     let s = sides c.args.self.now c.args.end c.requires.within c.requires.sides in
-    record { before = grind (arith, s.1.before); formula = grind (arith, s.1.formula) }
+    record { place = grind (arith, s.1.place); before = grind (arith, s.1.before); formula = grind (arith, s.1.formula) }
