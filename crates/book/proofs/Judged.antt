@@ -1,5 +1,5 @@
 -- What stands at a place of a book, whether its rules are true, and the lowest choice of a row that its setting lacks.
-use Rattle.std.proofs.Common.{◌≡◌, ℕ, suc, refl, ◌+◌, ◌-◌, ◌<◌, ◌≤◌, true, false, Bool, not, List, [], ◌∷◌, Some, None, Option, length, slice_index, sym, ap, ◌∙◌, subst, ⊎_elim, arith}
+use Rattle.std.proofs.Common.{◌≡◌, ℕ, suc, refl, ◌+◌, ◌-◌, ◌<◌, ◌≤◌, true, false, Bool, not, List, [], ◌∷◌, Some, None, Option, length, slice_index, take, sym, ap, ◌∙◌, subst, ⊎_elim, arith}
 use Rattle.std.specs.Bool.{MatchBool}
 use Rattle.std.specs.List.{zip, position, position_or_len, AllWithin, HoldsAt}
 use Rattle.std.proofs.lemmas.List.Sums.{list_all-from_AllPass}
@@ -72,6 +72,12 @@ zip_count : (S : List Setting) (row : List ℕ) → length S ≤ length row → 
 zip_count [] row h = refl
 zip_count (s ∷ S) [] h = absurd (omega arith)
 zip_count (s ∷ S) (v ∷ row) h = omega (arith, zip_count S row (omega arith))
+
+-- what the row has beyond the settings pairs with none
+pub zip_take : (S : List Setting) (row : List ℕ) → zip S (take (length S) row) ≡ zip S row
+zip_take [] row = refl
+zip_take (s ∷ S) [] = refl
+zip_take (s ∷ S) (v ∷ row) = ap (λ ps. (s, v) ∷ ps) (zip_take S row)
 
 -- settings counted from x, beside what is left of the row there
 lowest_from : (σ : Assignment) (S : List Setting) (row : List ℕ) (x : ℕ) → ((k : ℕ) → slice_index row k ≡ σ (x + k)) → length S ≤ length row → lowest_outside S σ x ≡ x + position_or_len lacks (zip S row)

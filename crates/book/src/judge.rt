@@ -25,9 +25,10 @@ impl Judgement<'_> {
         ensures finds { FindsLowest self.now.book.now.settings (chosen self.now.row.now) result }
     {
         let settings = self.book.settings.as_slice();
+        // Both lists end together, so that each turn tests one end.
         settings
             .iter()
-            .zip(self.row)
+            .zip(&self.row[..settings.len()])
             .position(|(setting, choice)| !setting.has(*choice))
     }
 

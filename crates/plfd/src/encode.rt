@@ -1,5 +1,5 @@
 //! The command of a node, byte for byte.
-ghost use Rattle.std.specs.Prelude.{◌≡◌, ℕ, ◌≤◌, List, [], ◌∷◌, take};
+ghost use Rattle.std.specs.Prelude.{◌≡◌, ℕ, ◌≤◌, List, [], ◌∷◌, length, take};
 ghost use Rattle.plfd.specs.Code.{command, connective_byte};
 
 use crate::nodes::{Atom, Connective, Node};
@@ -36,6 +36,7 @@ impl Encoded {
     /// The command's bytes and no more.
     pub fn as_slice(&self) -> &[u8]
         ensures value { result.now ≡ self.now }
+        ensures few { length result.now ≤ 6 }
     {
         &self.bytes[..self.count]
     }

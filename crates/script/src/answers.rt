@@ -3,6 +3,7 @@ ghost use Rattle.std.specs.Prelude.{Some};
 ghost use Rattle.std.specs.Fmt.{WritesOnOk};
 ghost use Rattle.script.specs.Saying.{code_said, answer_said};
 
+use crate::digits::{PIECE, spell};
 use std::fmt;
 
 /// What a call of a book gave that was not refused.
@@ -18,12 +19,14 @@ pub enum Answer {
 }
 
 /// Writes the code's bytes, each behind a space in two hexadecimal digits.
+// A piece of the code at a time: a `write!` for each byte takes four times as long.
 fn write_code<W: fmt::Write>(f: &mut fmt::Formatter<W>, code: &[u8]) -> fmt::Result
     ensures writes { WritesOnOk W.write_str_gives f.old result (code_said code.now) f.new }
 {
     f.write_str("code")?;
-    for byte in code {
-        write!(f, " {byte:02x}")?;
+    let mut words = [[0; 3]; PIECE];
+    for piece in code.chunks(PIECE) {
+        f.write_str(spell(piece, &mut words))?;
     }
     Ok(())
 }

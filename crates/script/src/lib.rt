@@ -2,5 +2,6 @@
 #![tactic(auto)]
 
 pub mod answers;
+mod digits;
 pub mod playing;
 pub mod saying;

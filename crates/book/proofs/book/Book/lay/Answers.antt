@@ -1,5 +1,5 @@
 -- The book is in order after a rule was laid and after a refusal, and the page is as the relations say.
-use Rattle.std.proofs.Common.{◌<◌, length, refl, ◌∙◌, arith}
+use Rattle.std.proofs.Common.{◌<◌, [], ◌∷◌, ◌++◌, length, ap, refl, ◌∙◌, arith, length-append}
 use Rattle.std.proofs.lemmas.Bool.Decides.{nat_tests}
 use Rattle.plfd.specs.Answers.{reason_at}
 use Rattle.plfd.specs.Faults.{fault}
@@ -27,7 +27,17 @@ pub invariant_of-self-3 : goal.invariant_of-self-3
 invariant_of-self-3 c =
     let b = c.args.self.now in
     let yes = tried_yes b.settings b.nodes.placed c.lay.new.self.placed (read b.settings (length b.nodes.placed) c.args.code.now) (rw c.as_slice.ensures.value at c.in_ok-lay.ensures.result) in
-    rw (c.push.ensures.value, c.len.ensures.value) (in_order b c.lay.new.self yes.0 yes.2)
+    let order = in_order b c.lay.new.self yes.0 yes.2 in
+    let ends = c.push.ensures.value ∙ ap (λ n. b.ends ++ n ∷ []) c.len.ensures.value in
+    record {
+      few_settings = b.few_settings;
+      few_rules = rw ends (grind (arith, nat_tests, length-append));
+      few_suppositions = b.few_suppositions;
+      fitting = order.fitting;
+      met = rw ends order.met;
+      rises = rw ends order.rises;
+      covers = rw ends order.covers;
+    }
 
 pub returns : goal.returns
 returns c =
